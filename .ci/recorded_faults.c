@@ -77,7 +77,7 @@ static void try_first(void) { in_turn(tried_then_b, b_then_a); }
 static void *a_b(void *of) { return both(&a, &b), of; }
 static void *b_gate(void *of) { return both(&b, &gate), of; }
 static void *gate_a(void *of) { return both(&gate, &a), of; }
-static void circle_of_three(void) { in_turn(a_b, b_gate), in_turn(gate_a, gate_a); }
+static void cycle_of_three(void) { in_turn(a_b, b_gate), in_turn(gate_a, gate_a); }
 
 /* ---- the order of locks: no faults ---- */
 
@@ -108,7 +108,7 @@ static void *a_then_tries_b(void *of) {
 }
 static void try_second(void) { in_turn(a_then_tries_b, b_then_a); }
 
-/* Mutexes that are made and destroyed, before half of them under one and then above it: none of them is in a circle. */
+/* Mutexes that are made and destroyed, before half of them under one and then above it: none of them is in a cycle. */
 static void *short_lived(void *of) {
     pthread_mutex_t *own = &many[(long)of];
     pthread_mutex_init(own, NULL);
@@ -250,6 +250,14 @@ static void other_user(void) {
     child_only();
 }
 
+/* Closes all that it doesn't know, and gives up its rights, as servers do. */
+static void gives_up(void) {
+    closefrom(3);
+    for (int i = 3; i < 1024; i++) close(i);
+    if (getuid() == 0 && setuid(65534)) exit(1);
+    for (int i = 0; i < 20000; i++) lock(&a), unlock(&a);
+}
+
 /* Opens no file from then on, as sandboxed servers do. */
 static void no_files(void) {
     struct sock_filter lines[] = { BPF_STMT(BPF_LD | BPF_W | BPF_ABS, offsetof(struct seccomp_data, nr)),
@@ -286,6 +294,72 @@ static void crowd(void) {
     for (int i = 0; i < 100; i++) pthread_join(t[i], NULL);
 }
 
+/* Mutexes of all kinds, by threads of which one is cancelled and one ends with a mutex. */
+enum { INHERITS, CHECKS, AGAIN, ROBUST, PROTECTS, KINDS };
+static void make_kinds(void) {
+    for (int kind = 0; kind < KINDS; kind++) {
+        pthread_mutexattr_t of;
+        pthread_mutexattr_init(&of);
+        if (kind == INHERITS) pthread_mutexattr_setprotocol(&of, PTHREAD_PRIO_INHERIT);
+        if (kind == CHECKS) pthread_mutexattr_settype(&of, PTHREAD_MUTEX_ERRORCHECK);
+        if (kind == AGAIN) pthread_mutexattr_settype(&of, PTHREAD_MUTEX_RECURSIVE);
+        if (kind == ROBUST) pthread_mutexattr_setrobust(&of, PTHREAD_MUTEX_ROBUST);
+        if (kind == PROTECTS) pthread_mutexattr_setprotocol(&of, PTHREAD_PRIO_PROTECT), pthread_mutexattr_setprioceiling(&of, 1);
+        pthread_mutex_init(&many[kind], &of);
+    }
+}
+static void *uses_kinds(void *of) {
+    for (int i = 0; i < 100; i++) {
+        lock(&many[INHERITS]), unlock(&many[INHERITS]);
+        lock(&many[AGAIN]), lock(&many[AGAIN]), unlock(&many[AGAIN]), unlock(&many[AGAIN]);
+        lock(&many[CHECKS]);
+        if (pthread_mutex_lock(&many[CHECKS]) != EDEADLK) abort();
+        unlock(&many[CHECKS]);
+        if (pthread_mutex_unlock(&many[CHECKS]) != EPERM) abort();
+        if (pthread_mutex_lock(&many[PROTECTS]) == 0) unlock(&many[PROTECTS]);
+    }
+    return of;
+}
+static void give_back(void *m) { unlock(m); }
+static void *is_cancelled(void *of) {
+    lock(&many[CHECKS]);
+    pthread_cleanup_push(give_back, &many[CHECKS]);
+    for (;;) pthread_cond_wait(&c, &many[CHECKS]);
+    pthread_cleanup_pop(1);
+    return of;
+}
+static void *ends_with_robust(void *of) { return lock(&many[ROBUST]), of; }
+static void kinds(void) {
+    pthread_t t;
+    make_kinds();
+    pthread_create(&t, NULL, is_cancelled, NULL);
+    at_once(uses_kinds, uses_kinds);
+    usleep(50000), pthread_cancel(t), pthread_join(t, NULL);
+    in_turn(ends_with_robust, uses_kinds);
+    if (pthread_mutex_lock(&many[ROBUST]) == EOWNERDEAD) pthread_mutex_consistent(&many[ROBUST]);
+    unlock(&many[ROBUST]);
+}
+
+/* Two processes play ping-pong by what they share. */
+struct table { pthread_mutex_t m; pthread_cond_t c; sem_t ping, pong; int number; };
+static void shares(void) {
+    struct table *all = mmap(NULL, sizeof *all, PROT_READ | PROT_WRITE, MAP_SHARED | MAP_ANONYMOUS, -1, 0);
+    pthread_mutexattr_t of_mutex;
+    pthread_condattr_t of_condition;
+    pthread_mutexattr_init(&of_mutex), pthread_mutexattr_setpshared(&of_mutex, 1), pthread_mutex_init(&all->m, &of_mutex);
+    pthread_condattr_init(&of_condition), pthread_condattr_setpshared(&of_condition, 1), pthread_cond_init(&all->c, &of_condition);
+    sem_init(&all->ping, 1, 0), sem_init(&all->pong, 1, 0);
+    int turn = fork() == 0;
+    for (int i = 0; i < 500; i++) {
+        lock(&all->m);
+        while (all->number % 2 != turn) pthread_cond_wait(&all->c, &all->m);
+        all->number++, pthread_cond_signal(&all->c), unlock(&all->m);
+        sem_post(turn ? &all->ping : &all->pong), sem_wait(turn ? &all->pong : &all->ping);
+    }
+    if (turn) _exit(0);
+    wait(NULL);
+}
+
 static void own_futex(void) {
     syscall(SYS_futex, &number, 1 /* wake */, 1, NULL, NULL, 0);
     lock(&a), unlock(&a);
@@ -293,11 +367,11 @@ static void own_futex(void) {
 
 #define CASE(f) { #f, f }
 static const struct { const char *name; void (*f)(void); } cases[] = {
-    CASE(inversion), CASE(among_many), CASE(with_rwlock), CASE(try_first), CASE(circle_of_three), CASE(behind_gate), CASE(one_thread), CASE(readers),
+    CASE(inversion), CASE(among_many), CASE(with_rwlock), CASE(try_first), CASE(cycle_of_three), CASE(behind_gate), CASE(one_thread), CASE(readers),
     CASE(try_second), CASE(made_anew), CASE(heap_used_again), CASE(deadlock), CASE(deadlock_unended), CASE(deadlock_rwlock), CASE(deadlock_join),
     CASE(relock), CASE(lost_signal), CASE(left_locked), CASE(no_unit), CASE(stranger), CASE(double_unlock), CASE(destroyed_held), CASE(unheld),
     CASE(freed_held), CASE(two_mutexes), CASE(posted_twice), CASE(race), CASE(counted), CASE(fork_held), CASE(many_forks), CASE(child_only),
-    CASE(other_user), CASE(no_files), CASE(by_handle), CASE(deep_plugin), CASE(crowd), CASE(own_futex),
+    CASE(other_user), CASE(gives_up), CASE(no_files), CASE(by_handle), CASE(deep_plugin), CASE(crowd), CASE(own_futex), CASE(kinds), CASE(shares),
 };
 
 int main(int argc, char **argv) {

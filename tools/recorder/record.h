@@ -1,7 +1,7 @@
 /* A record file: what the preloaded library (library/) writes and the converter (converter/) reads.
  *
- * The first page is the head. Then come chunks, each from a page's beginning on: a chunk's head and its contents. A page that is reserved and not
- * yet begun is zero. All of it is mapped and shared, so what a thread has published is in the file whatever ends the process. */
+ * The first page is the head. Then come chunks, each from a page's beginning on: a chunk's head and its contents. A page that is reserved
+ * and not yet begun is zero. All of it is mapped and shared, so what a thread has published is in the file whatever ends the process. */
 #ifndef RECORD_H
 #define RECORD_H
 #include <stdatomic.h>
@@ -30,6 +30,7 @@ struct head {
     _Atomic uint64_t stop;
     char why[128];
     _Atomic uint64_t futex_calls;    /* by syscall(), which the C library itself doesn't use */
+    _Atomic uint64_t deep_libraries; /* that were loaded with RTLD_DEEPBIND, so that their calls don't come here */
     _Atomic uint64_t lost_processes; /* forked ones that could make no file of their own */
     _Atomic uint64_t lost_error;     /* of the last one */
     /* The next number, in a line of its own. */
@@ -48,8 +49,9 @@ struct chunk {
 #define FRAMES 4
 struct place { uint64_t frames[FRAMES]; };
 
-/* What gives (unlock, the first part of a wait, post) has its number from before the call and stands in the file before it takes effect. What gets
- * (lock, the second part of a wait, a semaphore's wait) has its number from after the call. A signal has a number before it and one after. */
+/* What gives (unlock, the first part of a wait, post) has its number from before the call and stands in the file before it takes effect.
+ * What gets (lock, the second part of a wait, a semaphore's wait) has its number from after the call. A signal has one before and one
+ * after. */
 enum operation {
     NOTHING,
     LOCK,         /* a: mutex, b: result, RECURSIVE, TRIED */

@@ -1,5 +1,5 @@
 -- A wait as a row of steps, each of which says what the thread knows then.
-use Rattle.std.proofs.Common.{◌≡◌, ℕ, Option as Opt, Some, None, List, [], ◌∷◌, ◌++◌, ap, subst, sym, ◌∙◌, append_assoc, append-nil, slice_set}
+use Rattle.std.proofs.Common.{◌<◌, ◌≡◌, ℕ, Option as Opt, Some, None, List, [], ◌∷◌, ◌++◌, ap, subst, sym, ◌∙◌, append_assoc, append-nil, slice_set}
 use Rattle.std.proofs.lemmas.List.{set-set}
 use Rattle.larch_actions.specs.declared.event.Event.{Event}
 use Rattle.larch_actions.specs.Actions.{StartsWith, by_thread}
@@ -74,6 +74,7 @@ module _ {T H W : Type 0} where
     pub rests : (p : Shape W) → AtRest p o → HasStored p.traced e → IsOut z m → AtRest p z
     rests p rest stored is_out = record {
       of = ap (λ k. k.table_id) s.out ∙ (ap (λ k. k.table_id) s.ended ∙ (ap (λ k. k.table_id) s.blocked ∙ (ap (λ k. k.table_id) s.freed ∙ (ap (λ k. k.table_id) s.begun ∙ (ap (λ k. k.table_id) s.put ∙ rest.of)))));
+      named = subst (λ (n : ℕ). n < p.layout.threads) (sym same.number) rest.named;
       outside = record {
         spin = ap (λ s. s.2) stays ∙ rest.outside.spin;
         queue = ap (λ s. s.3) stays ∙ rest.outside.queue;

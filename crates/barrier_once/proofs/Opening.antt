@@ -64,5 +64,7 @@ rounds_begin w values n some_one few parties bar sum once =
       agreed = record {
         same = λ t s e v is. absurd (none_some v (sym (ap (λ (u : RoundShare). u.agreed) (each_fresh ns t s e)) ∙ is));
         within = λ v is. absurd (none_some v is);
+        none = λ is t s e. ap (λ (u : RoundShare). u.offered) (each_fresh ns t s e);
+        origin = λ v is. absurd (none_some v is);
       };
     }

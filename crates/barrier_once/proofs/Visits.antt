@@ -15,10 +15,9 @@ use Rattle.condition.specs.Waits.{resume_event}
 use Rattle.barrier_once.specs.declared.cell.Cell.{Cell}
 use Rattle.barrier_once.specs.declared.share.RoundShare.{RoundShare}
 use Rattle.barrier_once.specs.declared.share.RoundWorld.{RoundWorld}
-use Rattle.barrier_once.specs.Calls.{Arrived, HasLeft, IsAtBar, IsOver, IsPlaced, IsStay, RoundThread, Visited, waits}
+use Rattle.barrier_once.specs.Calls.{Arrived, HasLeft, IsAtBar, IsPlaced, IsStay, RoundThread, Visited, waits}
 use Rattle.barrier_once.specs.Cells.{round_of}
-use Rattle.barrier_once.specs.Rounds.{IsKnown, KnowsBar, MayArrive, arrived_share, passed_share}
-use Rattle.barrier_once.specs.declared.cell.Cell.TheVariants.{Bar}
+use Rattle.barrier_once.specs.Rounds.{IsKnown, KnowsBar, MayArrive}
 
 -- what is true of the world and of the share of a thread is true of whatever these are said to be
 pub of_own : (P : RoundWorld → RoundShare → Type 0) (b : RoundThread) (w : RoundWorld) (s : RoundShare) → b.world ≡ Some w → b.share ≡ Some s → P w s
@@ -73,24 +72,6 @@ at_round w t x s knows may =
     let left = knows.left in
     let same = may.left in
     ⊎_elim (λ (e : s.arrivals ≡ round_of x). e) (λ (e : s.arrivals ≡ round_of x + 1). absurd (omega arith)) knows.arrivals
-
--- the last to arrive knows the next round
-pub last_over : (w : RoundWorld) (t : ℕ) (x : Cell) (s : RoundShare) → KnowsBar w x s → MayArrive t s → IsOver w (s.arrivals + 1) (passed_share s)
-last_over w t x s knows may =
-    let round = at_round w t x s knows may in
-    let few = may.few in
-    let left = may.left in
-    let below = knows.below in (
-      Bar (round_of x + 1) 0,
-      record { is = refl; arrivals = inl (omega arith); few = omega arith; left = omega arith; below = omega arith; parties = knows.parties },
-      omega arith,
-    )
-
--- whoever leaves knows a later round
-pub wait_over : (w : RoundWorld) (t : ℕ) (x : Cell) (s : RoundShare) → KnowsBar w x (arrived_share s) → MayArrive t s → s.arrivals + 1 ≤ round_of x → IsOver w (s.arrivals + 1) (passed_share s)
-wait_over w t x s knows may over =
-    let left = may.left in
-    (x, record { is = knows.is; arrivals = knows.arrivals; few = knows.few; left = omega arith; below = knows.below; parties = knows.parties }, over)
 
 -- the thread took the bar, at which it may arrive
 pub at_bar : (p : Shape RoundWorld) (at : RoundAt) (x : Cell) (s : RoundShare) (a b : RoundThread) → IsPlaced p at → a.world ≡ Some p.world → a.share ≡ Some s → MayArrive a.number s

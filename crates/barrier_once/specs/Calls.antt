@@ -9,8 +9,7 @@ use Rattle.barrier_once.specs.declared.cell.Cell.{Cell}
 use Rattle.barrier_once.specs.declared.cell.RoundAt.{RoundAt}
 use Rattle.barrier_once.specs.declared.share.RoundShare.{RoundShare}
 use Rattle.barrier_once.specs.declared.share.RoundWorld.{RoundWorld}
-use Rattle.barrier_once.specs.Cells.{once_of, round_of}
-use Rattle.barrier_once.specs.Rounds.{KnowsBar, KnowsOnce, MayArrive, arrived_share, passed_share}
+use Rattle.barrier_once.specs.Rounds.{KnowsBar, MayArrive, arrived_share, passed_share}
 
 abbrev pub RoundThread : Type 0
 RoundThread = Known Cell RoundShare RoundWorld
@@ -52,10 +51,6 @@ pub record IsAtBar (p : Shape RoundWorld) (at : RoundAt) (x : Cell) (s : RoundSh
   pub may : MayArrive b.number s
   pub knows : KnowsBar p.world x s
 
--- each bar that this share fits has at least this round
-abbrev pub IsOver : RoundWorld → ℕ → RoundShare → Type 0
-IsOver w least s = (x : Cell) × KnowsBar w x s × (least ≤ round_of x)
-
 -- the thread, which held the bar in a with the share s, has left it in b
 pub record HasLeft (p : Shape RoundWorld) (at : RoundAt) (s : RoundShare) (a b : RoundThread) : Type 0 where
   pub rest : AtRest p b
@@ -63,7 +58,6 @@ pub record HasLeft (p : Shape RoundWorld) (at : RoundAt) (s : RoundShare) (a b :
   pub ran : (es : List Event) × IsStay a.number at.bar.0 at.cond.0 es × Adds es (release_event a.number at.bar.0) a b
   pub held : b.held ≡ slice_set a.held at.bar.0 None
   pub share : b.share ≡ Some (passed_share s)
-  pub round : IsOver p.world (s.arrivals + 1) (passed_share s)
 
 -- since a the thread has arrived and waited, k times and once more; it holds the bar x
 pub record IsWaiting (p : Shape RoundWorld) (at : RoundAt) (s : RoundShare) (k : ℕ) (x : Cell) (a b : RoundThread) : Type 0 where
@@ -75,11 +69,14 @@ pub record IsWaiting (p : Shape RoundWorld) (at : RoundAt) (s : RoundShare) (k :
   pub share : b.share ≡ Some (arrived_share s)
   pub knows : KnowsBar p.world x (arrived_share s)
 
--- the value returned was found in a once cell that this share fits, or the cell was empty and f
--- returns it; it lies between 1 and the greatest value
-pub record Found (w : RoundWorld) (answers : ℕ → Type 0) (s : RoundShare) (value : ℕ) : Type 0 where
-  pub cell : Cell
-  pub knows : KnowsOnce w cell s
-  pub empty : once_of cell ≡ None → answers value
-  pub full : (v : ℕ) → once_of cell ≡ Some v → value ≡ v
+-- The thread has agreed on the value. It has offered nothing, since the value was in the cell; or the cell was empty, and it has offered the
+-- value, which its function answers.
+abbrev pub HasAgreed : (ℕ → Type 0) → ℕ → RoundShare → RoundShare → Type 0
+HasAgreed answers value s r =
+    (r ≡ record s { agreed = Some value })
+    ⊎ ((s.offered ≡ None) × answers value × (r ≡ record s { agreed = Some value; offered = Some value }))
+
+-- the value is the one that the thread has agreed on before, if there is one, and 1 to the greatest value
+pub record IsFitting (w : RoundWorld) (s : RoundShare) (value : ℕ) : Type 0 where
+  pub again : (v : ℕ) → s.agreed ≡ Some v → value ≡ v
   pub within : (1 ≤ value) × (value ≤ w.most)

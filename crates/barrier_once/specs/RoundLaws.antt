@@ -1,11 +1,11 @@
 -- Each allowed change keeps the rule.
-use Rattle.std.specs.Prelude.{◌≡◌, ◌≢◌, ◌⊎◌, ℕ, ◌+◌, ◌*◌, ◌/◌, ◌<◌, ◌≤◌, cond, eqb, List, [], ◌∷◌, length, slice_set, Option as Opt, Some, None}
+use Rattle.std.specs.Prelude.{◌≡◌, ◌≢◌, ◌⊎◌, ℕ, ◌+◌, ◌*◌, ◌/◌, ◌<◌, ◌≤◌, cond, eqb, true, false, List, [], ◌∷◌, length, slice_set, Option as Opt, Some, None}
 use Rattle.std.proofs.Common.{zero, suc, arith, sym, ap, subst, ◌∙◌, ⊎_elim, inl, inr, refl, eq-eqb, ne_eqb}
 use Rattle.std.proofs.Math.Nat.{mul-add, add-mul}
 use Rattle.std.proofs.lemmas.Nat.{mul-le}
 use Rattle.std.proofs.lemmas.List.{length-set}
 use Rattle.std.proofs.lemmas.Option.{same_Some}
-use Rattle.std.proofs.lemmas.Bool.Decides.{nat_tests}
+use Rattle.std.proofs.lemmas.Bool.Decides.{eqb_tells, nat_tests}
 use mathlib.Core.Option.{some, some-injective, some-ne-none}
 use lib.ListN.{get_elem?}
 use Rattle.atomic_table.proofs.Lists.{at_set, set_here, set_else, set_again}
@@ -16,7 +16,7 @@ use Rattle.barrier_once.specs.declared.cell.Cell.TheVariants.{Bar, Sum, Once}
 use Rattle.barrier_once.specs.declared.share.RoundShare.{RoundShare}
 use Rattle.barrier_once.specs.declared.share.RoundWorld.{RoundWorld}
 use Rattle.barrier_once.specs.Cells.{arrived_of, once_of, round_of, sum_of}
-use Rattle.barrier_once.specs.Rounds.{added_by, added_share, agreed_share, Allowed, AreAgreed, AreRounds, arrived_share, IsAddition, IsAgreement, IsArrival, IsKnown, IsLast, IsLeave, IsParty, KnowsBar, KnowsOnce, KnowsSum, MayAdd, MayArrive, passed_share, triangle, with_arrivals}
+use Rattle.barrier_once.specs.Rounds.{added_by, added_share, agreed_share, Allowed, AreAgreed, AreRounds, arrived_share, IsAddition, IsAgreement, IsArrival, IsKnown, IsLast, IsLeave, IsOffered, IsParty, KnowsBar, KnowsOnce, KnowsSum, MayAdd, MayArrive, offered_after, passed_share, triangle, with_arrivals}
 
 -- numbers
 
@@ -159,6 +159,43 @@ bar_once r a o e = cc
 sum_once : (n : ℕ) (o : Opt ℕ) → Sum n ≡ Once o → ⊥
 sum_once n o e = cc
 
+-- what was offered
+
+none_some : (v : ℕ) → None ≡ Some v → ⊥
+none_some v e = cc
+
+-- what a thread has offered is in the cell
+offered_here : (most : ℕ) (value : Opt ℕ) (shares : List RoundShare) (t : ℕ) (s : RoundShare) (v : ℕ) → get_elem? shares t ≡ some s
+    → s.offered ≡ Some v → AreAgreed most value shares → value ≡ Some v
+offered_here most None shares t s v at e h = absurd (none_some v (sym (h.none refl t s at) ∙ e))
+offered_here most (Some u) shares t s v at e h =
+    let o = h.origin u refl in
+    let same : s ≡ o.share = some-injective s o.share (sym at ∙ (ap (get_elem? shares) (o.alone t s at v e) ∙ o.is_share)) in
+    sym o.offered ∙ (ap (λ (r : RoundShare). r.offered) (sym same) ∙ e)
+
+-- a step that offers nothing leaves who has offered
+offered_still : (shares : List RoundShare) (t : ℕ) (s r : RoundShare) (v : ℕ) → get_elem? shares t ≡ some s → r.offered ≡ s.offered
+    → IsOffered shares v → IsOffered (slice_set shares t r) v
+offered_still shares t s r v at e o =
+    let alone = each_set (λ k u. (x : ℕ) → u.offered ≡ Some x → k ≡ o.thread) shares t r o.alone
+    (λ x is. o.alone t s at x (sym e ∙ is)) in ⊎_elim
+    (λ (p : (eqb o.thread t ≡ true) × (o.thread ≡ t)).
+    let same : s ≡ o.share = some-injective s o.share (sym at ∙ (ap (get_elem? shares) (sym p.1) ∙ o.is_share)) in record {
+      thread = o.thread;
+      share = r;
+      is_share = ap (get_elem? (slice_set shares t r)) p.1 ∙ set_here shares t r (from_at shares t s at).0;
+      offered = e ∙ (ap (λ (u : RoundShare). u.offered) same ∙ o.offered);
+      alone = alone;
+    })
+    (λ (p : (eqb o.thread t ≡ false) × (o.thread ≢ t)). record {
+      thread = o.thread;
+      share = o.share;
+      is_share = set_else shares t o.thread r p.1 ∙ o.is_share;
+      offered = o.offered;
+      alone = alone;
+    })
+    (eqb_tells o.thread t)
+
 -- what a holder knows
 
 -- in a round with an odd number, each has added once for each round that was begun
@@ -221,7 +258,13 @@ knows_sum w values shares h t s own =
 
 knows_once : (w : RoundWorld) (values : List Cell) (shares : List RoundShare) (h : AreRounds w values shares) (t : ℕ) (s : RoundShare)
     → get_elem? shares t ≡ some s → KnowsOnce w (Once h.value) s
-knows_once w values shares h t s at = record { is = refl; same = h.agreed.same t s at; within = h.agreed.within }
+knows_once w values shares h t s at =
+    record {
+      is = refl;
+      same = h.agreed.same t s at;
+      offered = λ v e. offered_here w.most h.value shares t s v at e h.agreed;
+      within = h.agreed.within;
+    }
 
 pub fits_known : (w : RoundWorld) (values : List Cell) (shares : List RoundShare) → AreRounds w values shares → (m : ℕ) (x : Cell)
     → get_elem? values m ≡ some x
@@ -243,19 +286,51 @@ fits_known w values shares h m x at t s there =
 -- the steps at the bar
 
 agreed_after : (most : ℕ) (value : Opt ℕ) (shares : List RoundShare) (t : ℕ) (s r : RoundShare) → get_elem? shares t ≡ some s
-    → r.agreed ≡ s.agreed → AreAgreed most value shares → AreAgreed most value (slice_set shares t r)
-agreed_after most value shares t s r at e h = record {
+    → r.agreed ≡ s.agreed → r.offered ≡ s.offered → AreAgreed most value shares → AreAgreed most value (slice_set shares t r)
+agreed_after most value shares t s r at e f h = record {
   same = each_set (λ k u. (v : ℕ) → u.agreed ≡ Some v → value ≡ Some v) shares t r h.same (λ v is. h.same t s at v (sym e ∙ is));
   within = h.within;
+  none = λ n. each_set (λ k u. u.offered ≡ None) shares t r (h.none n) (f ∙ h.none n t s at);
+  origin = λ v is. offered_still shares t s r v at f (h.origin v is);
 }
+
+-- the thread t agrees on the value, which it offers where the cell was empty
+agreed_on : (most : ℕ) (found : Opt ℕ) (value : ℕ) (shares : List RoundShare) (t : ℕ) (s r : RoundShare) → get_elem? shares t ≡ some s
+    → (found ≡ None) ⊎ (found ≡ Some value) → (1 ≤ value) × (value ≤ most) → r.agreed ≡ Some value
+    → r.offered ≡ offered_after found (Some value) s.offered → AreAgreed most found shares
+    → AreAgreed most (Some value) (slice_set shares t r)
+agreed_on most None value shares t s r at stays within agreed offered h = record {
+  same = each_set (λ k u. (v : ℕ) → u.agreed ≡ Some v → Some value ≡ Some v) shares t r
+      (λ k u at' v e. absurd (none_some v (h.same k u at' v e))) (λ v e. sym agreed ∙ e);
+  within = λ v e. subst (λ k. (1 ≤ k) × (k ≤ most)) (same_Some value v e) within;
+  none = λ e. absurd (none_some value (sym e));
+  origin = λ v e. record {
+    thread = t;
+    share = r;
+    is_share = set_here shares t r (from_at shares t s at).0;
+    offered = offered ∙ e;
+    alone = each_set (λ k u. (x : ℕ) → u.offered ≡ Some x → k ≡ t) shares t r
+        (λ k u at' x e'. absurd (none_some x (sym (h.none refl k u at') ∙ e'))) (λ x e'. refl);
+  };
+}
+agreed_on most (Some f) value shares t s r at stays within agreed offered h =
+    let is : Some f ≡ Some value =
+    ⊎_elim (λ (n : Some f ≡ None). absurd (none_some f (sym n))) (λ (k : Some f ≡ Some value). k) stays in
+    record {
+      same = each_set (λ k u. (v : ℕ) → u.agreed ≡ Some v → Some value ≡ Some v) shares t r
+          (λ k u at' v e. sym is ∙ h.same k u at' v e) (λ v e. sym agreed ∙ e);
+      within = λ v e. subst (λ k. (1 ≤ k) × (k ≤ most)) (same_Some value v e) within;
+      none = λ e. absurd (none_some value (sym e));
+      origin = λ v e. offered_still shares t s r v at offered (h.origin v (is ∙ e));
+    }
 
 bar_after : (w : RoundWorld) (values : List Cell) (shares : List RoundShare) → (h : AreRounds w values shares) → (m : ℕ) (x y : Cell)
     → get_elem? values m ≡ some x → m ≡ w.at.bar.0
     → (t : ℕ) (s r : RoundShare) → get_elem? shares t ≡ some s → r.added ≡ s.added → r.agreed ≡ s.agreed
-    → (round arrived : ℕ) → y ≡ Bar round arrived → Each (IsParty round) (slice_set shares t r)
+    → r.offered ≡ s.offered → (round arrived : ℕ) → y ≡ Bar round arrived → Each (IsParty round) (slice_set shares t r)
     → arrived ≡ with_arrivals (round + 1) (slice_set shares t r) → arrived < w.parties
     → AreRounds w (slice_set values m y) (slice_set shares t r)
-bar_after w values shares h m x y at mutex t s r there added agreed round arrived now each count below =
+bar_after w values shares h m x y at mutex t s r there added agreed offered round arrived now each count below =
     let sum = added_set shares t s r there in
     let same : added_by (slice_set shares t r) ≡ added_by shares = omega arith in
     record {
@@ -275,7 +350,7 @@ bar_after w values shares h m x y at mutex t s r there added agreed round arrive
       each = each;
       count = count;
       below = below;
-      agreed = agreed_after w.most h.value shares t s r there agreed h.agreed;
+      agreed = agreed_after w.most h.value shares t s r there agreed offered h.agreed;
     }
 
 -- twice j less 1
@@ -335,8 +410,8 @@ party_adds round t s h may = let left = may.left in let is = may.arrivals in rec
   even = λ j e. inr (omega arith, let same : may.pairs ≡ j = omega arith in one_more j t s.added (may.added ∙ ap (λ k. k * (t + 1)) same));
 }
 
-party_agrees : (round t : ℕ) (s : RoundShare) (value : Opt ℕ) → IsParty round t s → IsParty round t (agreed_share value s)
-party_agrees round t s value h = record { arrivals = h.arrivals; few = h.few; left = h.left; leaves = h.leaves; odd = h.odd; even = h.even }
+party_agrees : (round t : ℕ) (s : RoundShare) (x y : Cell) → IsParty round t s → IsParty round t (agreed_share x y s)
+party_agrees round t s x y h = record { arrivals = h.arrivals; few = h.few; left = h.left; leaves = h.leaves; odd = h.odd; even = h.even }
 
 -- one more share is counted if its thread has just arrived
 one_counted : (round : ℕ) (shares : List RoundShare) (t : ℕ) (s r : RoundShare) → get_elem? shares t ≡ some s → s.arrivals ≡ round
@@ -347,9 +422,6 @@ one_counted round shares t s r there was now =
     let a = has_not (round + 1) s (λ e. absurd (omega arith)) in
     let b = has_it (round + 1) r now in
     omega arith
-
-still_agreed : (found : Opt ℕ) (value v : ℕ) → (found ≡ None) ⊎ (found ≡ Some value) → found ≡ Some v → Some value ≡ Some v
-still_agreed found value v stays e = ⊎_elim (λ (n : found ≡ None). absurd (cc)) (λ (k : found ≡ Some value). sym k ∙ e) stays
 
 module _ (w : RoundWorld) (values : List Cell) (shares : List RoundShare) (h : AreRounds w values shares) (m : ℕ) (x y : Cell)
     (at : get_elem? values m ≡ some x) (t : ℕ) (s r : RoundShare) (there : get_elem? shares t ≡ some s) where
@@ -364,7 +436,7 @@ module _ (w : RoundWorld) (values : List Cell) (shares : List RoundShare) (h : A
       let count = h.count in
       let more_come : h.arrived + 1 < w.parties = subst (λ c. arrived_of c + 1 < w.parties) is o.more_come in
       bar_after w values shares h m x y at o.mutex t s r there (ap (λ (u : RoundShare). u.added) o.share)
-      (ap (λ (u : RoundShare). u.agreed) o.share) h.round (h.arrived + 1) now
+      (ap (λ (u : RoundShare). u.agreed) o.share) (ap (λ (u : RoundShare). u.offered) o.share) h.round (h.arrived + 1) now
       (each_set (IsParty h.round) shares t r h.each (subst (IsParty h.round t) (sym o.share) own)) (omega arith) more_come
 
   after_last : IsLast w m t x y s r → AreRounds w (slice_set values m y) (slice_set shares t r)
@@ -382,7 +454,7 @@ module _ (w : RoundWorld) (values : List Cell) (shares : List RoundShare) (h : A
       let long = length-set shares t r in
       let each = all_counted (h.round + 1) (slice_set shares t r) (omega arith) in
       bar_after w values shares h m x y at o.mutex t s r there (ap (λ (u : RoundShare). u.added) o.share)
-      (ap (λ (u : RoundShare). u.agreed) o.share) (h.round + 1) 0 now
+      (ap (λ (u : RoundShare). u.agreed) o.share) (ap (λ (u : RoundShare). u.offered) o.share) (h.round + 1) 0 now
       (λ k u e. ⊎_elim
       (λ (p : (k ≡ t) × (r ≡ u)). subst (λ v. IsParty (h.round + 1) k v) (sym o.share ∙ p.1)
       (subst (λ j. IsParty (h.round + 1) j (passed_share s)) (sym p.0) own))
@@ -401,7 +473,7 @@ module _ (w : RoundWorld) (values : List Cell) (shares : List RoundShare) (h : A
       let same : has (h.round + 1) r ≡ has (h.round + 1) s = ap (λ k. cond (eqb k (h.round + 1)) 1 0) arrivals in
       let count = h.count in
       bar_after w values shares h m x y at o.mutex t s r there (ap (λ (u : RoundShare). u.added) o.share)
-      (ap (λ (u : RoundShare). u.agreed) o.share) h.round h.arrived (o.now ∙ is)
+      (ap (λ (u : RoundShare). u.agreed) o.share) (ap (λ (u : RoundShare). u.offered) o.share) h.round h.arrived (o.now ∙ is)
       (each_set (IsParty h.round) shares t r h.each (subst (IsParty h.round t) (sym o.share) own)) (omega arith) h.below
 
   after_addition : IsAddition w m t x y s r → AreRounds w (slice_set values m y) (slice_set shares t r)
@@ -432,7 +504,9 @@ module _ (w : RoundWorld) (values : List Cell) (shares : List RoundShare) (h : A
         each = each_set (IsParty h.round) shares t r h.each (subst (IsParty h.round t) (sym o.share) own);
         count = omega arith;
         below = h.below;
-        agreed = agreed_after w.most h.value shares t s r there (ap (λ (u : RoundShare). u.agreed) o.share) h.agreed;
+        agreed =
+            agreed_after w.most h.value shares t s r there (ap (λ (u : RoundShare). u.agreed) o.share)
+            (ap (λ (u : RoundShare). u.offered) o.share) h.agreed;
       }
 
   after_agreement : IsAgreement w m x y s r → AreRounds w (slice_set values m y) (slice_set shares t r)
@@ -461,15 +535,14 @@ module _ (w : RoundWorld) (values : List Cell) (shares : List RoundShare) (h : A
         once = here values m w.at.once.0 x y _ at o.mutex o.now;
         each =
             each_set (IsParty h.round) shares t r h.each (subst (IsParty h.round t) (sym o.share)
-            (party_agrees h.round t s (Some o.value) (h.each t s there)));
+            (party_agrees h.round t s x y (h.each t s there)));
         count = omega arith;
         below = h.below;
-        agreed = record {
-          same = each_set (λ k u. (v : ℕ) → u.agreed ≡ Some v → Some o.value ≡ Some v) shares t r
-              (λ k u at' v e. still_agreed h.value o.value v stays (h.agreed.same k u at' v e))
-              (λ v e. sym (ap (λ (u : RoundShare). u.agreed) o.share) ∙ e);
-          within = λ v e. subst (λ k. (1 ≤ k) × (k ≤ w.most)) (same_Some o.value v e) o.within;
-        };
+        agreed = agreed_on w.most h.value o.value shares t s r there stays o.within
+            (ap (λ (u : RoundShare). u.agreed) o.share ∙ ap once_of o.now)
+            (ap (λ (u : RoundShare). u.offered) o.share
+            ∙ (ap (λ c. offered_after (once_of c) (once_of y) s.offered) is
+            ∙ ap (λ c. offered_after h.value (once_of c) s.offered) o.now)) h.agreed;
       }
 
   after_nothing : (y ≡ x) × (r ≡ s) → AreRounds w (slice_set values m y) (slice_set shares t r)

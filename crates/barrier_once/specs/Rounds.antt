@@ -11,7 +11,7 @@ use Rattle.barrier_once.specs.Cells.{round_of, arrived_of, sum_of, once_of}
 
 -- the share of a thread that has done nothing yet
 abbrev pub fresh_share : RoundShare
-fresh_share = record { arrivals = 0; left = 0; added = 0; agreed = None }
+fresh_share = record { arrivals = 0; left = 0; added = 0; agreed = None; offered = None }
 
 -- 1 + 2 + .. + n
 abbrev pub triangle : ℕ → ℕ
@@ -37,10 +37,21 @@ pub record IsParty (round t : ℕ) (s : RoundShare) : Type 0 where
   pub odd : (j : ℕ) → s.arrivals ≡ 2 * j + 1 → s.added ≡ (j + 1) * (t + 1)
   pub even : (j : ℕ) → s.arrivals ≡ 2 * j → (s.added ≡ j * (t + 1)) ⊎ ((s.left ≡ 2 * j) × (s.added ≡ (j + 1) * (t + 1)))
 
--- each agreed value is the one in the cell, which lies between 1 and the greatest value
+-- this thread has offered the value v, and no other thread has offered any
+pub record IsOffered (shares : List RoundShare) (v : ℕ) : Type 0 where
+  pub thread : ℕ
+  pub share : RoundShare
+  pub is_share : get_elem? shares thread ≡ some share
+  pub offered : share.offered ≡ Some v
+  pub alone : Each (λ t s. (u : ℕ) → s.offered ≡ Some u → t ≡ thread) shares
+
+-- Each agreed value is the one in the cell, which is 1 to the greatest value. One thread has offered it, and nobody has offered one while the
+-- cell is empty.
 pub record AreAgreed (most : ℕ) (value : Opt ℕ) (shares : List RoundShare) : Type 0 where
   pub same : Each (λ t s. (v : ℕ) → s.agreed ≡ Some v → value ≡ Some v) shares
   pub within : (v : ℕ) → value ≡ Some v → (1 ≤ v) × (v ≤ most)
+  pub none : value ≡ None → Each (λ t s. s.offered ≡ None) shares
+  pub origin : (v : ℕ) → value ≡ Some v → IsOffered shares v
 
 -- the rule of the barrier, the sum and the once cell, where all threads are parties
 pub record AreRounds (w : RoundWorld) (values : List Cell) (shares : List RoundShare) : Type 0 where
@@ -76,6 +87,7 @@ pub record KnowsSum (w : RoundWorld) (x : Cell) (s : RoundShare) : Type 0 where
 pub record KnowsOnce (w : RoundWorld) (x : Cell) (s : RoundShare) : Type 0 where
   pub is : x ≡ Once (once_of x)
   pub same : (v : ℕ) → s.agreed ≡ Some v → once_of x ≡ Some v
+  pub offered : (v : ℕ) → s.offered ≡ Some v → once_of x ≡ Some v
   pub within : (v : ℕ) → once_of x ≡ Some v → (1 ≤ v) × (v ≤ w.most)
 
 -- what the holder of the mutex m knows
@@ -106,12 +118,18 @@ arrived_share s = record s { arrivals = s.arrivals + 1 }
 abbrev pub passed_share : RoundShare → RoundShare
 passed_share s = record s { arrivals = s.arrivals + 1; left = s.left + 1 }
 
--- the share after its thread t has added, and after it has agreed
+-- the share after its thread t has added
 abbrev pub added_share : ℕ → RoundShare → RoundShare
 added_share t s = record s { added = s.added + (t + 1) }
 
-abbrev pub agreed_share : Opt ℕ → RoundShare → RoundShare
-agreed_share value s = record s { agreed = value }
+-- what a thread has offered, where a cell had `found` and has `now`: the value now if the cell was empty, and else what it had offered before
+abbrev pub offered_after : Opt ℕ → Opt ℕ → Opt ℕ → Opt ℕ
+offered_after None now before = now
+offered_after (Some v) now before = before
+
+-- the share after its thread has agreed, where the once cell was x and is y
+abbrev pub agreed_share : Cell → Cell → RoundShare → RoundShare
+agreed_share x y s = record s { agreed = once_of y; offered = offered_after (once_of x) (once_of y) s.offered }
 
 -- the thread arrives, and others are yet to come
 pub record IsArrival (w : RoundWorld) (m t : ℕ) (x y : Cell) (s r : RoundShare) : Type 0 where
@@ -146,14 +164,14 @@ pub record IsAddition (w : RoundWorld) (m t : ℕ) (x y : Cell) (s r : RoundShar
   pub now : y ≡ Sum (sum_of x + (t + 1))
   pub share : r ≡ added_share t s
 
--- the thread agrees on the value in the cell, which stays where there is one
+-- the thread agrees on the value in the cell, which stays if there is one; if there is none, the thread offers one
 pub record IsAgreement (w : RoundWorld) (m : ℕ) (x y : Cell) (s r : RoundShare) : Type 0 where
   pub value : ℕ
   pub mutex : m ≡ w.at.once.0
   pub stays : (once_of x ≡ None) ⊎ (once_of x ≡ Some value)
   pub within : (1 ≤ value) × (value ≤ w.most)
   pub now : y ≡ Once (Some value)
-  pub share : r ≡ agreed_share (Some value) s
+  pub share : r ≡ agreed_share x y s
 
 -- nothing changes, or it is one of these steps
 abbrev pub Allowed : RoundWorld → ℕ → ℕ → Cell → Cell → RoundShare → RoundShare → Type 0

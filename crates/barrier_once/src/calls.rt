@@ -3,10 +3,10 @@ ghost use Rattle.std.specs.Prelude.{◌≡◌, ◌+◌, ◌*◌, ◌<◌, ◌≤
 ghost use mathlib.Core.Option.{some};
 ghost use lib.ListN.{get_elem?};
 ghost use Rattle.nub.specs.Rest.{AtRest, IsSame};
-ghost use Rattle.barrier_once.specs.Calls.{Arrived, Found, HasLeft, IsAtBar, IsOver, IsPlaced, Visited};
+ghost use Rattle.barrier_once.specs.Calls.{Arrived, HasAgreed, HasLeft, IsAtBar, IsFitting, IsPlaced, Visited};
 ghost use Rattle.barrier_once.specs.Cells.{arrived_of};
 ghost use Rattle.barrier_once.specs.declared.share.RoundShare.{RoundShare};
-ghost use Rattle.barrier_once.specs.Rounds.{MayAdd, MayArrive, added_share, agreed_share, passed_share, triangle};
+ghost use Rattle.barrier_once.specs.Rounds.{MayAdd, MayArrive, added_share, passed_share, triangle};
 
 use crate::cell::{Cell, RoundAt};
 use crate::round_uses::{AddsOwn, Agrees, Arrives, Leaves, Passes, RoundUses};
@@ -43,7 +43,6 @@ pub fn arrive<R: Wait>(
     ensures held { me.new.held ≡ me.old.held }
     ensures answer { (s : RoundShare) → me.old.share ≡ Some s → result ≡ s.arrivals }
     ensures share { (s : RoundShare) → me.old.share ≡ Some s → me.new.share ≡ Some (passed_share s) }
-    ensures round { (s : RoundShare) → me.new.share ≡ Some s → IsOver p.now.world (result + 1) s }
 {
     let bar = acquire(rt, p, me, at.bar);
     let round = bar.round();
@@ -190,15 +189,10 @@ fn found_or<F: FnOnce() -> u64 + Drop>(found: Option<u64>, f: F) -> u64
     }
 }
 
-/// Returns the value in the once cell. If the cell is empty, what `f` returns is put there first.
+/// Returns the value in the once cell. If the cell is empty, the value that f returns is put there first, and the thread has offered it.
 ///
-/// Blocks while another thread holds the mutex of the cell. While `f` runs, all other threads that
-/// want the cell wait. If the cell has a value `f` isn't called, but no clause says so.
-///
-/// ```rust
-/// let first = agree(rt, p, &mut me, &at, || 5);
-/// let second = agree(rt, p, &mut me, &at, || six(calls));
-/// ```
+/// Blocks while another thread has the mutex of the cell, and while f runs all others wait for it. That f isn't called on a full cell is
+/// said by no clause.
 pub fn agree<F: FnOnce() -> u64 + Drop, R: Wait>(
     rt: &R,
     p: &Package<RoundUses>,
@@ -217,8 +211,9 @@ pub fn agree<F: FnOnce() -> u64 + Drop, R: Wait>(
     ensures same { IsSame me.old me.new }
     ensures ran { Visited me.old.number at.now.once.0 me.old me.new }
     ensures held { me.new.held ≡ me.old.held }
-    ensures share { (s : RoundShare) → me.old.share ≡ Some s → me.new.share ≡ Some (agreed_share (Some result) s) }
-    ensures found { (s : RoundShare) → me.old.share ≡ Some s → Found p.now.world (F.post f) s result }
+    ensures share { (s : RoundShare) → me.old.share ≡ Some s
+        → (r : RoundShare) × (me.new.share ≡ Some r) × HasAgreed (F.post f) result s r }
+    ensures fits { (s : RoundShare) → me.old.share ≡ Some s → IsFitting p.now.world s result }
 {
     let cell = acquire(rt, p, me, at.once);
     let value = found_or(cell.once(), f);

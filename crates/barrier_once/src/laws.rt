@@ -7,7 +7,7 @@ ghost use Rattle.barrier_once.specs.declared.cell.Cell.{Cell};
 ghost use Rattle.barrier_once.specs.declared.cell.Cell.TheVariants.{Bar};
 ghost use Rattle.barrier_once.specs.declared.share.RoundShare.{RoundShare};
 ghost use Rattle.barrier_once.specs.declared.share.RoundWorld.{RoundWorld};
-ghost use Rattle.barrier_once.specs.Rounds.{AreRounds};
+ghost use Rattle.barrier_once.specs.Rounds.{AreRounds, IsOffered};
 
 /// If the bar has reached a round, every thread has arrived as often as that.
 pub fn all_have_arrived()
@@ -27,4 +27,10 @@ pub fn agreed_on_one()
     ensures { (w : RoundWorld) (values : List Cell) (shares : List RoundShare) → AreRounds w values shares
         → (n m : ℕ) (s r : RoundShare) (u v : ℕ) → get_elem? shares n ≡ some s → get_elem? shares m ≡ some r
         → s.agreed ≡ Some u → r.agreed ≡ Some v → u ≡ v }
+{}
+
+/// A value that a thread has agreed on was offered by one thread, and no other has offered any.
+pub fn agreed_was_offered()
+    ensures { (w : RoundWorld) (values : List Cell) (shares : List RoundShare) → AreRounds w values shares
+        → (n : ℕ) (s : RoundShare) (v : ℕ) → get_elem? shares n ≡ some s → s.agreed ≡ Some v → IsOffered shares v }
 {}

@@ -1,8 +1,7 @@
 //! The use of the package by a barrier, a sum and a once cell.
 ghost use Rattle.std.specs.Prelude.{◌+◌};
-ghost use Rattle.barrier_once.specs.Cells.{once_of};
 ghost use Rattle.barrier_once.specs.RoundLaws.{fits_known, rounds_after};
-ghost use Rattle.barrier_once.specs.Rounds.{Allowed, AreRounds, IsKnown, fresh_share};
+ghost use Rattle.barrier_once.specs.Rounds.{Allowed, AreRounds, IsKnown, agreed_share, fresh_share};
 
 use crate::cell::Cell;
 use crate::share::{RoundShare, RoundWorld};
@@ -44,7 +43,7 @@ pub struct Leaves;
 /// The change by which a thread adds its number and 1.
 pub struct AddsOwn;
 
-/// The change by which a thread agrees on the value in the once cell.
+/// The thread agrees on the value in the once cell, and has offered it if the cell was empty.
 pub struct Agrees;
 
 impl Change<RoundUses> for Arrives {
@@ -64,5 +63,5 @@ impl Change<RoundUses> for AddsOwn {
 }
 
 impl Change<RoundUses> for Agrees {
-    ghost after = { λ w m t x y s. record s { agreed = once_of y } };
+    ghost after = { λ w m t x y s. agreed_share x y s };
 }

@@ -10,11 +10,12 @@ pub struct RoundWorld {
     pub at: RoundAt,
 }
 
-/// How often a thread has arrived at the barrier and left it, what it has added to the sum, and the
-/// value that it has agreed on.
+/// How often a thread has arrived at the barrier and left it, what it has added to the sum, the value that it has agreed on, and the value
+/// that it has offered: a thread offers one if it finds the once cell empty.
 pub struct RoundShare {
     pub arrivals: u64,
     pub left: u64,
     pub added: u64,
     pub agreed: Option<u64>,
+    pub offered: Option<u64>,
 }

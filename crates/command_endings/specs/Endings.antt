@@ -4,7 +4,9 @@ use Rattle.command_endings.specs.declared.ending.Ending.{Ending}
 use Rattle.command_endings.specs.declared.ending.Ending.TheVariants as ending
 use Rattle.command_endings.specs.declared.status.Status.{Status}
 use Rattle.command_endings.specs.declared.status.Status.TheVariants.{Usage, ReadFault, SinkFault, Stopped, Memory, BadText, TooMany, TooLong}
-use Rattle.command_endings.specs.Changes.{Change}
+use Rattle.exact_text.specs.declared.fault.TextFault.{TextFault}
+use Rattle.exact_text.specs.declared.fault.TextFault.TheVariants as fault
+use Rattle.command_endings.specs.Changes.{Change, Notes}
 use Rattle.command_endings.specs.Messages.{usage_message, input_fault_message, output_fault_message, bad_line_message, stopped_message, stopped_by_message, memory_message, too_many_message, unreadable_message, too_long_message}
 
 abbrev pub status_of : Ending → Status
@@ -30,6 +32,17 @@ message_of ending.Memory = memory_message
 message_of (ending.BadLine line) = bad_line_message line
 message_of ending.TooMany = too_many_message
 message_of ending.TooLong = too_long_message
+
+-- the ending of a text that can't be read
+abbrev pub ending_of : TextFault → Ending
+ending_of fault.Memory = ending.Memory
+ending_of (fault.BadLine line) = ending.BadLine line
+ending_of fault.TooLong = ending.TooLong
+ending_of fault.Read = ending.InputFault
+
+-- the status and the message of a text that can't be read
+abbrev pub SaysFault : TextFault → Change → Status → Type 0
+SaysFault fault notes status = (status ≡ status_of (ending_of fault)) × Notes notes (message_of (ending_of fault))
 
 -- A failed read is told: the input's count of faults rises only where the status says so.
 abbrev pub TellsFault : Change → Status → Type 0

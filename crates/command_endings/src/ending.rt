@@ -1,13 +1,14 @@
 //! How a command ends that wrote no whole answer.
 ghost use Rattle.std.specs.Prelude.{◌≡◌};
 ghost use Rattle.command_endings.specs.Changes.{Notes, change_of};
-ghost use Rattle.command_endings.specs.Endings.{message_of, status_of};
+ghost use Rattle.command_endings.specs.Endings.{SaysFault, message_of, status_of};
 
 use crate::Status;
 use crate::message::{
     INPUT_FAULT, OUT_OF_MEMORY, OUTPUT_FAULT, TOO_LONG, TOO_MANY, USAGE, say, say_bad_line,
     say_stopped, say_stopped_by, say_unreadable,
 };
+use exact_text::TextFault;
 use firefly_outside::Sink;
 
 /// Why no whole answer was written.
@@ -81,5 +82,17 @@ pub fn ends<N: Sink>(notes: &mut N, ending: Ending) -> Status
             say(notes, TOO_LONG);
             Status::TooLong
         }
+    }
+}
+
+/// Says why a text wasn't read, and answers the status that goes with it.
+pub fn ends_unread<N: Sink>(notes: &mut N, fault: TextFault) -> Status
+    ensures { SaysFault fault (change_of N.held N.faults notes.old notes.new) result }
+{
+    match fault {
+        TextFault::Memory => ends(notes, Ending::Memory),
+        TextFault::BadLine(line) => ends(notes, Ending::BadLine(line)),
+        TextFault::TooLong => ends(notes, Ending::TooLong),
+        TextFault::Read => ends(notes, Ending::InputFault),
     }
 }

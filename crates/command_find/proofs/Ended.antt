@@ -5,11 +5,13 @@ use Rattle.index_find.specs.Tree.{Tree}
 use Rattle.index_find.specs.Grammar.{Token, IsReading}
 use Rattle.command_endings.specs.declared.status.Status.{Status}
 use Rattle.command_endings.specs.declared.status.Status.TheVariants.{Done, Usage, ReadFault, SinkFault, Stopped, Memory, Illegal, BadText, TooMany, TooLong}
-use Rattle.command_endings.specs.Changes.{Change}
+use Rattle.command_endings.specs.Changes.{Change, IsStill}
+use Rattle.index_text.specs.declared.fault.IndexFault.{IndexFault}
+use Rattle.index_text.specs.declared.fault.IndexFault.TheVariants as fault
 use Rattle.command_endings.specs.Printing.{Prints}
 use Rattle.index_find.specs.Meaning.{AreMeant}
 use Rattle.command_find.specs.Lines.{lines_of}
-use Rattle.command_find.specs.Find.{IsTextOf, IsFound, PrintsFound, EndsBy, FindAnswers}
+use Rattle.command_find.specs.Find.{Fails, IsTextOf, IsFound, PrintsFound, EndsBy, FindAnswers, SaysFault}
 
 pub ended : (tree : Tree) (input out notes : Change) (status s : Status) → status ≡ s → EndsBy tree input out notes s → EndsBy tree input out notes status
 ended tree input out notes status s e h = subst (λ (x : Status). EndsBy tree input out notes x) (sym e) h
@@ -26,6 +28,13 @@ printed tree rows paths input out notes status read meant (inr h) = ended tree i
 pub found : (tree : Tree) (rows : List Row) (input out notes : Change) (status : Status) → IsTextOf input rows → PrintsFound tree rows out notes status → EndsBy tree input out notes status
 found tree rows input out notes status read (inl h) = printed tree rows h.0 input out notes status read h.1 h.2
 found tree rows input out notes status read (inr h) = ended tree input out notes status Memory h.0 (h.1, h.2)
+
+-- the index wasn't read
+pub refused : (tree : Tree) (input out notes : Change) (status : Status) (f : IndexFault) → Fails input f → IsStill out → SaysFault f notes status → EndsBy tree input out notes status
+refused tree input out notes status (fault.BadLine k) why still h = ended tree input out notes status BadText h.0 (k, why, still, h.1)
+refused tree input out notes status fault.TooLong why still h = ended tree input out notes status TooLong h.0 (why, still, h.1)
+refused tree input out notes status fault.Read why still h = ended tree input out notes status ReadFault h.0 (why, still, h.1)
+refused tree input out notes status fault.Memory why still h = ended tree input out notes status Memory h.0 (still, h.1)
 
 -- the query was read
 pub answered : (tokens : List Token) (tree : Tree) (input out notes : Change) (status : Status) → IsReading tokens tree → EndsBy tree input out notes status → FindAnswers tokens input out notes status

@@ -39,6 +39,13 @@ PrintsFound tree rows out notes status =
 abbrev pub Fails : Change → IndexFault → Type 0
 Fails input f = HasReason input.old input.before input.now f
 
+-- the status and the message of each reason
+abbrev pub SaysFault : IndexFault → Change → Status → Type 0
+SaysFault (fault.BadLine k) notes status = (status ≡ BadText) × Notes notes (bad_line_message k)
+SaysFault fault.TooLong notes status = (status ≡ TooLong) × Notes notes too_long_message
+SaysFault fault.Read notes status = (status ≡ ReadFault) × Notes notes input_fault_message
+SaysFault fault.Memory notes status = (status ≡ Memory) × Notes notes memory_message
+
 -- each status by its cause, once the query is read
 abbrev pub EndsBy : Tree → Change → Change → Change → Status → Type 0
 EndsBy tree input out notes Done = (text : List ℕ) × IsFound tree input text × Gets out text × IsStill notes

@@ -4,7 +4,7 @@ ghost use Rattle.std.specs.String.{string_bytes};
 ghost use Rattle.command_endings.specs.Changes.{change_of};
 ghost use Rattle.index_find.specs.Postfix.{tree_of};
 ghost use Rattle.command_endings.specs.Endings.{TellsFault};
-ghost use Rattle.command_find.specs.Find.{PrintsFound, EndsBy, FindAnswers, Decided};
+ghost use Rattle.command_find.specs.Find.{PrintsFound, EndsBy, FindAnswers, Decided, SaysFault};
 
 use crate::lines::print_paths;
 use command_endings::{Ending, Status, ends};
@@ -29,6 +29,18 @@ fn print_found<O: Sink, N: Sink>(
     }
 }
 
+// Says why no index was read, and returns the status that goes with it.
+fn refused<N: Sink>(notes: &mut N, fault: IndexFault) -> Status
+    ensures { SaysFault fault (change_of N.held N.faults notes.old notes.new) result }
+{
+    match fault {
+        IndexFault::BadLine(line) => ends(notes, Ending::BadLine(line)),
+        IndexFault::TooLong => ends(notes, Ending::TooLong),
+        IndexFault::Read => ends(notes, Ending::InputFault),
+        IndexFault::Memory => ends(notes, Ending::Memory),
+    }
+}
+
 // Answers the query on the index that the input gives.
 fn answer<I: Source, O: Sink, N: Sink>(
     alloc: Global,
@@ -43,10 +55,7 @@ fn answer<I: Source, O: Sink, N: Sink>(
 {
     match read_index(alloc, input) {
         Ok(index) => print_found(alloc, query, &index, out, notes),
-        Err(IndexFault::Memory) => ends(notes, Ending::Memory),
-        Err(IndexFault::BadLine(line)) => ends(notes, Ending::BadLine(line)),
-        Err(IndexFault::TooLong) => ends(notes, Ending::TooLong),
-        Err(IndexFault::Read) => ends(notes, Ending::InputFault),
+        Err(fault) => refused(notes, fault),
     }
 }
 

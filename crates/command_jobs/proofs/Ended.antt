@@ -1,14 +1,15 @@
 -- How the command ends, by what was read.
 use Rattle.std.proofs.Common.{◌≡◌, inl, inr, ℕ, List, refl, sym, subst}
 use Rattle.command_jobs.specs.declared.job_line.JobLine.{JobLine}
-use Rattle.command_jobs.specs.declared.job_line.JobsFault.{JobsFault}
-use Rattle.command_jobs.specs.declared.job_line.JobsFault.TheVariants as fault
+use Rattle.exact_text.specs.declared.fault.TextFault.{TextFault}
+use Rattle.exact_text.specs.declared.fault.TextFault.TheVariants as fault
 use Rattle.command_endings.specs.declared.status.Status.{Status}
 use Rattle.command_endings.specs.declared.status.Status.TheVariants.{Done, ReadFault, SinkFault, Stopped, Memory, BadText, TooLong}
 use Rattle.command_endings.specs.Changes.{Change, IsStill}
 use Rattle.command_endings.specs.Printing.{Prints}
 use Rattle.command_jobs.specs.Lines.{lines_of}
-use Rattle.command_jobs.specs.Jobs.{AreValues, AreDone, Fails, IsRead, JobsAnswers, Runs, SaysFault}
+use Rattle.command_endings.specs.Endings.{SaysFault}
+use Rattle.command_jobs.specs.Jobs.{AreValues, AreDone, Fails, IsRead, JobsAnswers, Runs}
 
 module _ (input out notes : Change) (status : Status) where
   so : (s : Status) → status ≡ s → JobsAnswers input out notes s → JobsAnswers input out notes status
@@ -28,7 +29,7 @@ module _ (input out notes : Change) (status : Status) where
   answered lines read (inr (inr h)) = so Memory h.0 (h.1, h.2)
 
   -- they were not
-  pub refused : (f : JobsFault) → Fails input f → IsStill out → SaysFault f notes status → JobsAnswers input out notes status
+  pub refused : (f : TextFault) → Fails input f → IsStill out → SaysFault f notes status → JobsAnswers input out notes status
   refused (fault.BadLine k) why still h = so BadText h.0 (k, why, still, h.1)
   refused fault.TooLong why still h = so TooLong h.0 (why, still, h.1)
   refused fault.Read why still h = so ReadFault h.0 (why, still, h.1)

@@ -1,81 +1,58 @@
--- Lines apart: where one ends, and which one it is.
-use Rattle.std.proofs.Common.{◌≡◌, ◌≢◌, ◌⊎◌, inl, inr, ℕ, ◌+◌, ◌%◌, ◌^◌, ◌<◌, ◌≤◌, List, [], ◌∷◌, ◌++◌, length, get_or, refl, ap, sym, ◌∙◌, append_assoc, length-append, arith}
-use Rattle.std.specs.Prelude.{codes, decimal}
-use Rattle.std.specs.List.{AllByRecursion}
-use Rattle.std.proofs.lemmas.Fmt.{decimal_by_steps, decimal_injective, length-decimal-le}
-use Rattle.std.proofs.lemmas.List.{append_cancel_left}
+-- A text is that of one list of lines, and an input has one answer.
+use Rattle.std.proofs.Common.{◌≡◌, ℕ, ◌≤◌, List, [], ◌∷◌, length, refl, ap, sym, subst, ◌∙◌, Some, None, IfSome, arith, length-append}
+use Rattle.std.specs.List.{AllByRecursion, flat_map}
+use Rattle.std.specs.declared.option.Option.{Option}
+use Rattle.exact_text.specs.declared.fault.TextFault.{TextFault}
+use Rattle.exact_text.specs.declared.fault.TextFault.TheVariants as fault
+use Rattle.exact_text.specs.Exact.{OrMemory, IsShown, IsTooLong, lines_room}
+use Rattle.exact_text.proofs.CodeLaws.{ok_injective}
+use Rattle.exact_text.proofs.Grammar.{line_some}
+use Rattle.exact_text.proofs.LinesOf.{within_lines}
+use Rattle.exact_text.proofs.Shown.{one_answer}
 use Rattle.command_jobs.specs.declared.job_line.JobLine.{JobLine}
-use Rattle.command_jobs.specs.declared.job_line.JobLine.TheVariants.{Sum, Stop}
-use Rattle.command_jobs.specs.JobLines.{IsLawful, line_text, lines_text}
-use Rattle.command_jobs.specs.JobFaults.{IsFlat}
+use Rattle.command_jobs.specs.JobLines.{IsJobs, IsLawful, line_text, ReadsAs, most_lines, IsDecided}
+use Rattle.command_jobs.specs.JobReading.{job_at, job_code, job_is_line, some_job}
 
-pub all_append : {A : Type 0} (P : A → Type 0) (xs ys : List A) → AllByRecursion P xs → AllByRecursion P ys → AllByRecursion P (xs ++ ys)
-all_append P [] ys p q = q
-all_append P (x ∷ xs) ys p q = (p.0, all_append P xs ys p.1 q)
+same_lines : (xs ys : List JobLine) → AllByRecursion IsLawful xs → AllByRecursion IsLawful ys → flat_map line_text xs ≡ flat_map line_text ys → xs ≡ ys
+same_lines [] [] p q e = refl
+same_lines [] (y ∷ ys) p q e =
+    let some = line_some (line_text y) (job_is_line y q.0).0 in
+    absurd (omega (arith, ap length e, some, length-append (line_text y) (flat_map line_text ys)))
+same_lines (x ∷ xs) [] p q e =
+    let some = line_some (line_text x) (job_is_line x p.0).0 in
+    absurd (omega (arith, ap length e, some, length-append (line_text x) (flat_map line_text xs)))
+same_lines (x ∷ xs) (y ∷ ys) p q e =
+    let read : (x, flat_map line_text xs) ≡ (y, flat_map line_text ys) = ok_injective (sym (job_code.again x (flat_map line_text xs) p.0) ∙ ap job_at e ∙ job_code.again y (flat_map line_text ys) q.0) in
+    let first : x ≡ y = ap (λ r. r.0) read in
+    let rest = same_lines xs ys p.1 q.1 (ap (λ r. r.1) read) in
+    cc
 
-all_after : {A : Type 0} (P : A → Type 0) (xs ys : List A) → AllByRecursion P (xs ++ ys) → AllByRecursion P ys
-all_after P [] ys p = p
-all_after P (x ∷ xs) ys p = all_after P xs ys p.1
+pub is_decided : IsDecided
+is_decided = record {
+  one_answer = one_answer IsJobs (lines_room most_lines);
+  one_list = λ input xs ys p q. same_lines xs ys p.lawful q.lawful (sym p.text ∙ q.text);
+}
 
--- what is cut at a newline has one
-pub flat_not : (xs ys : List ℕ) → IsFlat (xs ++ 10 ∷ ys) → ⊥
-flat_not [] ys p = p.0 refl
-flat_not (x ∷ xs) ys p = flat_not xs ys p.1
+module _ (input : List ℕ) (lines : List JobLine) (text : ReadsAs input lines) (few : length lines ≤ most_lines) where
+  -- a text of few enough lines may be read whole
+  within : length input ≤ lines_room most_lines input
+  within =
+      let w = within_lines job_code (λ x h. (job_is_line x h).0) some_job lines most_lines text.lawful few in
+      let P : List ℕ → Type 0 = λ l. length l ≤ lines_room most_lines l in subst P (sym text.text) w
 
--- the bytes before the first newline, and those behind it, are determined
-pub cut_same : (xs ys a b : List ℕ) → IsFlat xs → IsFlat ys → xs ++ 10 ∷ a ≡ ys ++ 10 ∷ b → (xs ≡ ys) × (a ≡ b)
-cut_same [] [] a b p q e = (refl, cc)
-cut_same [] (y ∷ ys) a b p q e = let h : y ≡ 10 = cc in absurd (q.0 h)
-cut_same (x ∷ xs) [] a b p q e = let h : x ≡ 10 = cc in absurd (p.0 h)
-cut_same (x ∷ xs) (y ∷ ys) a b p q e =
-    let head : x ≡ y = cc in
-    let tail : xs ++ 10 ∷ a ≡ ys ++ 10 ∷ b = cc in
-    let ih = cut_same xs ys a b p.1 q.1 tail in
-    (let same = ih.0 in cc, ih.1)
+  pub text_or_bad : (k : ℕ) → IsShown IsJobs (lines_room most_lines input) input k → ⊥
+  text_or_bad k b = is_decided.one_answer.text_or_bad input k (lines, text.lawful, text.text) within b
 
-flat_decimal : (n : ℕ) → n < 2 ^ 64 → IsFlat (decimal n)
-flat_decimal n fits =
-    decimal_by_steps (λ _ ds. IsFlat ds) (λ n small. (λ h. omega arith, tt)) (λ n ds large h. all_append (λ b. b ≢ 10) ds ((48 + n % 10) ∷ []) h (λ k. omega arith, tt)) n fits
+  pub text_or_long : IsTooLong IsJobs (lines_room most_lines input) input → ⊥
+  text_or_long l = is_decided.one_answer.text_or_long input within l
 
-pub line_flat : (x : JobLine) → IsLawful x → IsFlat (line_text x)
-line_flat (Sum n) h =
-    all_append (λ b. b ≢ 10) (codes "sum ") (decimal n) (λ e. omega arith, (λ e. omega arith, (λ e. omega arith, (λ e. omega arith, tt)))) (flat_decimal n (omega arith))
-line_flat Stop h = (λ e. omega arith, (λ e. omega arith, (λ e. omega arith, (λ e. omega arith, tt))))
+pub read_as : (r : Option (List ℕ)) (xs : List JobLine) → AllByRecursion IsLawful xs → IfSome r (λ bytes. bytes ≡ flat_map line_text xs) → IfSome r (λ bytes. ReadsAs bytes xs)
+read_as None xs all h = tt
+read_as (Some bytes) xs all h = record { lawful = all; text = h }
 
-pub line_short : (x : JobLine) → IsLawful x → length (line_text x) ≤ 11
-line_short (Sum n) h = let d = length-decimal-le 7 n (omega arith) (omega arith) (omega arith) in omega (arith, length-append (codes "sum ") (decimal n))
-line_short Stop h = omega arith
-
--- a text is of one line
-pub line_same : (x y : JobLine) → IsLawful x → IsLawful y → line_text x ≡ line_text y → x ≡ y
-line_same (Sum n) (Sum m) h g e = ap (λ k. Sum k) (decimal_injective n m (omega arith) (omega arith) (append_cancel_left (codes "sum ") _ _ e))
-line_same (Sum n) Stop h g e = absurd (omega (arith, ap (λ l. get_or l 1 0) e))
-line_same Stop (Sum m) h g e = absurd (omega (arith, ap (λ l. get_or l 1 0) e))
-line_same Stop Stop h g e = refl
-
-pub lines_append : (xs ys : List JobLine) → lines_text (xs ++ ys) ≡ lines_text xs ++ lines_text ys
-lines_append [] ys = refl
-lines_append (x ∷ xs) ys = ap (λ b. line_text x ++ 10 ∷ b) (lines_append xs ys) ∙ sym (append_assoc (line_text x) (10 ∷ lines_text xs) (lines_text ys))
-
--- the first line, and what is behind it
-pub first_line : (x : JobLine) (xs : List JobLine) (rest : List ℕ) → lines_text (x ∷ xs) ++ rest ≡ line_text x ++ 10 ∷ (lines_text xs ++ rest)
-first_line x xs rest = append_assoc (line_text x) (10 ∷ lines_text xs) rest
-
--- lines behind others, and what follows them
-pub record IsBehind (xs ys : List JobLine) (r s : List ℕ) : Type 0 where
-  pub zs : List JobLine
-  pub lawful : AllByRecursion IsLawful zs
-  pub lines : ys ≡ xs ++ zs
-  pub bytes : r ≡ lines_text zs ++ s
-
--- of two lists of lines that stand first in the same bytes one begins with the other
-pub prefixes : (xs ys : List JobLine) (r s : List ℕ) → AllByRecursion IsLawful xs → AllByRecursion IsLawful ys → lines_text xs ++ r ≡ lines_text ys ++ s → IsBehind xs ys r s ⊎ IsBehind ys xs s r
-prefixes [] ys r s p q e = inl (record { zs = ys; lawful = q; lines = refl; bytes = e })
-prefixes (x ∷ xs) [] r s p q e = inr (record { zs = x ∷ xs; lawful = p; lines = refl; bytes = sym e })
-prefixes (x ∷ xs) (y ∷ ys) r s p q e =
-    let c = cut_same (line_text x) (line_text y) (lines_text xs ++ r) (lines_text ys ++ s) (line_flat x p.0) (line_flat y q.0) (sym (first_line x xs r) ∙ (e ∙ first_line y ys s)) in
-    let same = line_same x y p.0 q.0 c.0 in
-    elim (prefixes xs ys r s p.1 q.1 c.1) [
-      | inl h ↦ inl (record { zs = h.zs; lawful = h.lawful; lines = ap (λ l. y ∷ l) h.lines ∙ ap (λ z. z ∷ (xs ++ h.zs)) (sym same); bytes = h.bytes })
-      | inr h ↦ inr (record { zs = h.zs; lawful = h.lawful; lines = ap (λ l. x ∷ l) h.lines ∙ ap (λ z. z ∷ (ys ++ h.zs)) same; bytes = h.bytes })
-    ]
+-- a reason of a reader that takes no memory
+pub or_memory : (Reason : TextFault → Type 0) (f : TextFault) → Reason f → OrMemory Reason f
+or_memory Reason fault.Memory h = tt
+or_memory Reason (fault.BadLine k) h = h
+or_memory Reason fault.TooLong h = h
+or_memory Reason fault.Read h = h

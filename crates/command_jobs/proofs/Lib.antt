@@ -4,6 +4,3 @@ pub mod Ended
 pub mod Due
 pub mod Places
 pub mod JobTexts
-pub mod JobAnswered
-pub mod JobReasons
-pub mod JobWindows

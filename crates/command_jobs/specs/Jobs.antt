@@ -3,10 +3,10 @@ use Rattle.std.specs.Prelude.{◌≡◌, ◌≢◌, ◌⊎◌, ℕ, ◌≤◌, L
 use Rattle.std.specs.Io.KnownBytes.{IsAtEnd}
 use Rattle.command_jobs.specs.declared.job_line.JobLine.{JobLine}
 use Rattle.command_jobs.specs.declared.job_line.JobLine.TheVariants as line
-use Rattle.command_jobs.specs.declared.job_line.JobsFault.{JobsFault}
-use Rattle.command_jobs.specs.declared.job_line.JobsFault.TheVariants as fault
-use Rattle.command_jobs.specs.JobLines.{ReadsAs}
-use Rattle.command_jobs.specs.JobFaults.{most_lines, HasReason, IsBadLine, IsTooLong}
+use Rattle.exact_text.specs.declared.fault.TextFault.{TextFault}
+use Rattle.exact_text.specs.declared.fault.TextFault.TheVariants as fault
+use Rattle.exact_text.specs.Exact.{HasReason, OrMemory, IsShown, IsTooLong, lines_room}
+use Rattle.command_jobs.specs.JobLines.{IsJobs, ReadsAs, most_lines}
 use Rattle.job_pool.specs.declared.job.Work.TheVariants.{Value}
 use Rattle.job_pool.specs.declared.pool_end.PoolEnd.{PoolEnd}
 use Rattle.job_pool.specs.declared.pool_end.PoolEnd.TheVariants as pool
@@ -61,15 +61,8 @@ pub record IsStopped (input : Change) (k : ℕ) : Type 0 where
   pub stops : StopsAt lines k
 
 -- why the lines aren't read
-abbrev pub Fails : Change → JobsFault → Type 0
-Fails input f = HasReason input.old input.new input.before input.now f
-
--- the status and the message of each reason
-abbrev pub SaysFault : JobsFault → Change → Status → Type 0
-SaysFault (fault.BadLine k) notes status = (status ≡ BadText) × Notes notes (bad_line_message k)
-SaysFault fault.TooLong notes status = (status ≡ TooLong) × Notes notes too_long_message
-SaysFault fault.Read notes status = (status ≡ ReadFault) × Notes notes input_fault_message
-SaysFault fault.Memory notes status = (status ≡ Memory) × Notes notes memory_message
+abbrev pub Fails : Change → TextFault → Type 0
+Fails input f = OrMemory (HasReason IsJobs (lines_room most_lines) 0 input.old input.new input.before input.now) f
 
 -- the cause of each status
 abbrev pub JobsAnswers : Change → Change → Change → Status → Type 0
@@ -88,8 +81,8 @@ JobsAnswers input out notes TooMany = ⊥
 abbrev pub IsDue : List ℕ → Status → Type 0
 IsDue bytes Done = (lines : List JobLine) × ReadsAs bytes lines × (length lines ≤ most_lines) × ((k : ℕ) → ¬ StopsAt lines k)
 IsDue bytes Stopped = (lines : List JobLine) × ReadsAs bytes lines × (length lines ≤ most_lines) × ((k : ℕ) × StopsAt lines k)
-IsDue bytes BadText = (k : ℕ) × IsBadLine bytes k
-IsDue bytes TooLong = IsTooLong bytes
+IsDue bytes BadText = (k : ℕ) × IsShown IsJobs (lines_room most_lines bytes) bytes k
+IsDue bytes TooLong = IsTooLong IsJobs (lines_room most_lines bytes) bytes
 IsDue bytes status = ⊥
 
 -- if the bytes of the input are known, memory sufficed and no read failed, the status is the one

@@ -2,5 +2,4 @@ pub mod Values
 pub mod Lines
 pub mod Jobs
 pub mod JobLines
-pub mod JobFaults
-pub mod JobTaking
+pub mod JobReading

@@ -2,15 +2,15 @@
 ghost use Rattle.std.specs.Prelude.{◌≡◌, ◌≤◌, length};
 ghost use Rattle.std.specs.List.{AllByRecursion};
 ghost use Rattle.command_endings.specs.Changes.{change_of};
-ghost use Rattle.command_jobs.specs.JobFaults.{most_lines};
 ghost use Rattle.command_endings.specs.Endings.{TellsFault};
-ghost use Rattle.command_jobs.specs.Jobs.{Decided, JobsAnswers, Runs, SaysFault};
+ghost use Rattle.command_jobs.specs.JobLines.{most_lines};
+ghost use Rattle.command_jobs.specs.Jobs.{Decided, JobsAnswers, Runs};
 
-use crate::job_line::{JobLine, JobsFault};
+use crate::job_line::JobLine;
 use crate::job_read::read_jobs;
 use crate::lines::print_values;
 use crate::run::run_lines;
-use command_endings::{Ending, Status, ends};
+use command_endings::{Ending, Status, ends, ends_unread};
 use firefly_outside::{Sink, Source};
 use job_pool::PoolEnd;
 use std::alloc::Global;
@@ -37,18 +37,6 @@ fn run_read<R: Threads + Wait + Sync, O: Sink, N: Sink>(
     }
 }
 
-// Prints why no lines were read, and returns the status of that fault.
-fn refused<N: Sink>(notes: &mut N, fault: JobsFault) -> Status
-    ensures { SaysFault fault (change_of N.held N.faults notes.old notes.new) result }
-{
-    match fault {
-        JobsFault::BadLine(line) => ends(notes, Ending::BadLine(line)),
-        JobsFault::TooLong => ends(notes, Ending::TooLong),
-        JobsFault::Read => ends(notes, Ending::InputFault),
-        JobsFault::Memory => ends(notes, Ending::Memory),
-    }
-}
-
 /// Runs the jobs of the input's lines by `workers` workers, and prints the value of each after its
 /// place. If a line is `stop`, reports which one stopped the others, and prints no value. Returns
 /// the status.
@@ -69,6 +57,6 @@ pub fn run_jobs_command<R: Threads + Wait + Sync, I: Source, O: Sink, N: Sink>(
 {
     match read_jobs(alloc, input) {
         Ok(lines) => run_read(rt, alloc, workers, lines, out, notes),
-        Err(fault) => refused(notes, fault),
+        Err(fault) => ends_unread(notes, fault),
     }
 }

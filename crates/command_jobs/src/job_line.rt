@@ -1,5 +1,4 @@
 //! The lines of jobs, and the reasons why they can't be read.
-use thiserror::Error;
 
 /// A job.
 #[derive(Clone, Copy, Debug, PartialEq, Eq)]
@@ -8,17 +7,4 @@ pub enum JobLine {
     Sum(u32),
     /// The job that stops the pool.
     Stop,
-}
-
-/// Why the lines were not read.
-#[derive(Clone, Copy, Debug, PartialEq, Eq, Error)]
-pub enum JobsFault {
-    #[error("out of memory")]
-    Memory,
-    #[error("bad line {0}")]
-    BadLine(u64),
-    #[error("input too long")]
-    TooLong,
-    #[error("input could not be read")]
-    Read,
 }

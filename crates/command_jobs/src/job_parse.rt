@@ -1,37 +1,63 @@
-//! Parses the bytes of one line.
-ghost use Rattle.std.specs.Prelude.{◌≡◌, ℕ, ◌≤◌, decimal, MatchOption};
-ghost use Rattle.command_jobs.specs.JobLines.{IsLawful, line_text};
-ghost use Rattle.command_jobs.specs.JobTaking.{Parses};
+//! Reading the line of a job.
+ghost use Rattle.std.specs.Prelude.{◌≡◌, codes};
+ghost use Rattle.exact_text.specs.Reading.{Gives, after_word, number_at};
+ghost use Rattle.command_jobs.specs.JobReading.{job_at};
 
 use crate::job_line::JobLine;
-use std::str;
-use text_output::read_number;
+use exact_text::{NextLine, Stop, number, word};
 
 /// The greatest number that a line may have.
-pub const MOST: u64 = 1_000_000;
+pub const MOST: u32 = 1_000_000;
 
-// A number up to a million.
-fn number(bytes: &[u8]) -> Option<u64>
-    ensures { Parses (λ n. n ≤ 1000000) decimal bytes.now result }
+// Reads the line of a sum: the number at which it ends, and what follows the line.
+fn sum(bytes: &[u8]) -> Result<(u32, &[u8]), Stop>
+    ensures { Gives (λ x. (x.0, x.1.now)) result (after_word (codes "sum ") (number_at 0 1000001 10) bytes.now) }
 {
-    let Ok(text) = str::from_utf8(bytes) else {
-        return None;
-    };
-    read_number(text, 0, MOST)
+    match word(bytes, b"sum ") {
+        Ok(rest) => number(rest, 0, MOST + 1, b'\n'),
+        Err(stop) => Err(stop),
+    }
 }
 
-/// Returns the line that these bytes are, without its newline.
-pub fn line(bytes: &[u8]) -> Option<JobLine>
-    ensures { Parses IsLawful line_text bytes.now result }
+// Reads the line of a job, and returns what follows it.
+fn job(bytes: &[u8]) -> Result<(JobLine, &[u8]), Stop>
+    ensures { Gives (λ x. (x.0, x.1.now)) result (job_at bytes.now) }
 {
-    if bytes == b"stop".as_slice() {
-        return Some(JobLine::Stop);
+    match word(bytes, b"stop\n") {
+        Err(Stop::Dead) => {}
+        Err(Stop::More) => return Err(Stop::More),
+        Ok(rest) => return Ok((JobLine::Stop, rest)),
     }
-    let Some(digits) = bytes.strip_prefix(b"sum ") else {
-        return None;
-    };
-    let Some(number) = number(digits) else {
-        return None;
-    };
-    Some(JobLine::Sum(number as u32))
+    match sum(bytes) {
+        Ok((last, rest)) => Ok((JobLine::Sum(last), rest)),
+        Err(stop) => Err(stop),
+    }
+}
+
+/// The line of any job.
+pub struct AnyJob;
+
+impl NextLine for AnyJob {
+    ghost use Rattle.command_jobs.specs.JobLines.{IsLawful, line_text};
+    ghost use Rattle.command_jobs.specs.JobReading.{job_at, job_code, job_is_line, some_job};
+
+    type Line = JobLine;
+
+    ghost is_possible = { λ s. Unit {0} };
+
+    ghost is_lawful = { λ s. IsLawful };
+
+    ghost text = { λ s. line_text };
+
+    ghost reads = { λ s. job_at };
+
+    ghost is_exact = { λ s ok. job_code };
+
+    ghost is_line = { λ s ok. job_is_line };
+
+    ghost is_some = { λ s ok. some_job };
+
+    fn read<'b>(&self, bytes: &'b [u8]) -> Result<(JobLine, &'b [u8]), Stop> {
+        job(bytes)
+    }
 }

@@ -1,64 +1,45 @@
 //! Reads lines of jobs from a source.
 ghost use Rattle.std.specs.Prelude.{◌≡◌, ◌≤◌, ◌≢◌, length, IfOk, IfErr, IfSome, OnOk};
 ghost use Rattle.std.specs.List.{AllByRecursion};
-ghost use Rattle.std.specs.Io.KnownBytes.{IsAtEnd, prepend_known};
-ghost use Rattle.command_jobs.specs.JobLines.{IsLawful, ReadsAs, lines_text};
-ghost use Rattle.command_jobs.specs.JobFaults.{HasReason, IsTold, most_lines};
-ghost use Rattle.command_jobs.specs.JobTaking.{IsPast};
+ghost use Rattle.std.specs.Io.KnownBytes.{IsAtEnd};
+ghost use Rattle.exact_text.specs.Exact.{HasReason, OrMemory, lines_room};
+ghost use Rattle.exact_text.specs.Intake.{IsTold};
+ghost use Rattle.command_jobs.specs.JobLines.{IsJobs, IsLawful, ReadsAs, most_lines};
 
-use crate::job_line::{JobLine, JobsFault};
-use crate::job_take::{Next, take_line};
-use firefly_outside::{Source, Window};
+use crate::job_line::JobLine;
+use crate::job_parse::AnyJob;
+use exact_text::{Intake, TextFault, another_line};
+use firefly_outside::Source;
 use std::alloc::Global;
 
 /// The greatest number of lines of a text.
-pub const MOST_LINES: usize = 100_000;
-
-// Fails if there is anything after as many lines as there may be.
-fn past<I: Source>(window: &mut Window, input: &mut I) -> Result<(), JobsFault>
-    ensures past { IsPast (prepend_known window.old (I.left input.old)) (I.left input.new) (I.faults input.old) (I.faults input.new)
-        result }
-    ensures told { IsTold (I.faults input.old) (I.faults input.new) result }
-{
-    if window.len() > 0 {
-        return Err(JobsFault::TooLong);
-    }
-    match window.refill(input, 1) {
-        Ok(0) => Ok(()),
-        Ok(_) => Err(JobsFault::TooLong),
-        Err(_) => Err(JobsFault::Read),
-    }
-}
+pub const MOST_LINES: u64 = 100_000;
 
 /// Reads all lines of the input.
 ///
-/// Fails with `BadLine` for the first line at which the input is no prefix of a text, or in the
-/// middle of which it ends; with `TooLong` if the input begins with 100,000 lines and has more
-/// bytes; and with `Read` if the source failed before the bytes had shown one of these.
-pub fn read_jobs<I: Source>(alloc: Global, input: &mut I) -> Result<Vec<JobLine>, JobsFault>
+/// `BadLine` names the first line at which the input is no prefix of a text, as soon as the bytes show it; where the input ends within a
+/// line, that line. `TooLong` says that 100,000 lines stand first and that more bytes come, and `Read` that the source failed before the
+/// bytes had shown one of these.
+pub fn read_jobs<I: Source>(alloc: Global, input: &mut I) -> Result<Vec<JobLine>, TextFault>
     ensures lines { IfOk result (λ v. IfSome (I.left input.old) (λ bytes. ReadsAs bytes v.items)) }
     ensures lawful { IfOk result (λ v. AllByRecursion IsLawful v.items) }
     ensures few { IfOk result (λ v. length v.items ≤ most_lines) }
     ensures end { OnOk result (IsAtEnd (I.left input.new)) }
-    ensures fault { IfErr result (HasReason (I.left input.old) (I.left input.new) (I.faults input.old) (I.faults input.new)) }
+    ensures fault { IfErr result (OrMemory (HasReason IsJobs (lines_room most_lines) 0 (I.left input.old) (I.left input.new)
+        (I.faults input.old) (I.faults input.new))) }
     ensures told { IsTold (I.faults input.old) (I.faults input.new) result }
 {
-    let mut window = Window::new();
+    let mut intake = Intake::new(u64::MAX - 1);
     let mut lines = Vec::new(alloc);
-    while lines.len() < MOST_LINES {
-        match take_line(&mut window, input) {
-            Ok(Next::Line(line)) => {
+    loop {
+        match another_line(&mut intake, input, &AnyJob, MOST_LINES) {
+            Ok(Some(line)) => {
                 if lines.push(line).is_err() {
-                    return Err(JobsFault::Memory);
+                    return Err(TextFault::Memory);
                 }
             }
-            Ok(Next::Bad) => return Err(JobsFault::BadLine(lines.len() as u64 + 1)),
-            Ok(Next::End) => return Ok(lines),
-            Err(_) => return Err(JobsFault::Read),
+            Ok(None) => return Ok(lines),
+            Err(fault) => return Err(fault),
         }
-    }
-    match past(&mut window, input) {
-        Ok(()) => Ok(lines),
-        Err(fault) => Err(fault),
     }
 }

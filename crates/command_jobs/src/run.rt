@@ -1,6 +1,6 @@
 //! The jobs of lines, run by a pool.
 ghost use Rattle.std.specs.Prelude.{◌≡◌, ◌≤◌, length, map, IfOk};
-ghost use Rattle.command_jobs.specs.JobFaults.{most_lines};
+ghost use Rattle.command_jobs.specs.JobLines.{most_lines};
 ghost use Rattle.command_jobs.specs.Jobs.{HaveRun};
 
 use crate::job::LineJob;

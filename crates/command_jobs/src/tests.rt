@@ -45,11 +45,11 @@ fn a_failed_read_is_told(rt: HostRuntime) -> Result<(), Fail> {
 }
 
 #[test]
-fn a_bad_line_comes_before_a_failed_read(rt: HostRuntime) -> Result<(), Fail> {
+fn a_bad_byte_comes_before_a_failed_read(rt: HostRuntime) -> Result<(), Fail> {
     let text = b"sum 3\nsum 1000001\nstop\n".as_slice();
     let alloc = rt.alloc();
-    let right = answers(&rt, alloc, text, 18, Status::BadText, b"")?
-        && answers(&rt, alloc, text, 17, Status::ReadFault, b"")?;
+    let right = answers(&rt, alloc, text, 17, Status::BadText, b"")?
+        && answers(&rt, alloc, text, 16, Status::ReadFault, b"")?;
     assert!(rt; right);
     Ok(())
 }

@@ -1,5 +1,5 @@
 -- A thread between two calls, and what a call adds to its own events.
-use Rattle.std.proofs.Common.{◌≡◌, ◌≢◌, ℕ, ◌+◌, ◌*◌, ◌<◌, suc, eq-eqb, ne_eqb, cond, List, [], ◌∷◌, ◌++◌, Some, arith, sym, subst, ap, ◌∙◌, refl, append_assoc, append-nil}
+use Rattle.std.proofs.Common.{◌≡◌, ◌⊎◌, ◌≢◌, ℕ, ◌+◌, ◌*◌, ◌<◌, suc, eq-eqb, ne_eqb, cond, List, [], ◌∷◌, ◌++◌, Some, None, arith, sym, subst, ap, ◌∙◌, refl, inl, inr, append_assoc, append-nil}
 use Rattle.larch_actions.specs.declared.event.Event.{Event}
 use Rattle.nub_rule.specs.Known.{Shape}
 use Rattle.nub_rule.specs.Plays.{acquire_event, release_event}
@@ -62,18 +62,29 @@ arrived p t s r es a e b rest same ran held share =
 nothing : (t : ℕ) → 0 ≡ 0 * (t + 1)
 nothing t = omega arith
 
+-- what the share of a thread that has agreed has besides
+agreed_share : (X : Type 0) (v : ℕ) (s : RoundShare) → (s ≡ record fresh_share { agreed = Some v }) ⊎ ((fresh_share.offered ≡ None) × X × (s ≡ record fresh_share { agreed = Some v; offered = Some v }))
+    → (s.arrivals ≡ 0) × (s.left ≡ 0) × (s.added ≡ 0) × (s.agreed ≡ Some v)
+agreed_share X v s (inl is) = (ap (λ (u : RoundShare). u.arrivals) is, ap (λ (u : RoundShare). u.left) is, ap (λ (u : RoundShare). u.added) is, ap (λ (u : RoundShare). u.agreed) is)
+agreed_share X v s (inr h) =
+    let is = h.2 in
+    (ap (λ (u : RoundShare). u.arrivals) is, ap (λ (u : RoundShare). u.left) is, ap (λ (u : RoundShare). u.added) is, ap (λ (u : RoundShare). u.agreed) is)
+
 -- a thread that has agreed plays its first round next
-pub agreed : (p : Shape RoundWorld) (t v : ℕ) (s : RoundShare) (me : RoundThread) → s ≡ record fresh_share { agreed = Some v } → IsBetween p t s ([] ++ visit t 2) me → IsPlaying p t 0 me
-agreed p t v s me is b = record {
-  share = s;
-  events = visit t 2;
-  between = b;
-  arrivals = ap (λ (u : RoundShare). u.arrivals) is;
-  left = ap (λ (u : RoundShare). u.left) is;
-  added = ap (λ (u : RoundShare). u.added) is ∙ nothing t;
-  agreed = (v, ap (λ (u : RoundShare). u.agreed) is);
-  are = ([], refl, refl);
-}
+pub agreed : (p : Shape RoundWorld) (t v : ℕ) (X : Type 0) (s : RoundShare) (me : RoundThread) → (s ≡ record fresh_share { agreed = Some v }) ⊎ ((fresh_share.offered ≡ None) × X × (s ≡ record fresh_share { agreed = Some v; offered = Some v }))
+    → IsBetween p t s ([] ++ visit t 2) me → IsPlaying p t 0 me
+agreed p t v X s me has b =
+    let is = agreed_share X v s has in
+    record {
+      share = s;
+      events = visit t 2;
+      between = b;
+      arrivals = is.0;
+      left = is.1;
+      added = is.2 ∙ nothing t;
+      agreed = (v, is.3);
+      are = ([], refl, refl);
+    }
 
 pub may_add : (p : Shape RoundWorld) (t n : ℕ) (me : RoundThread) → (h : IsPlaying p t n me) → MayAdd t h.share
 may_add p t n me h = record { pairs = n; left = h.left ∙ sym h.arrivals; arrivals = h.arrivals; added = h.added }

@@ -1,5 +1,5 @@
 -- What an index run says of the trees that were handed in.
-use Rattle.std.proofs.Common.{◌≡◌, ⊎_elim, ℕ, suc, ◌+◌, ◌≤◌, Bool, true, false, List, ◌++◌, length, Option, Some, None, refl, sym, ap, subst, ◌∙◌, arith}
+use Rattle.std.proofs.Common.{◌≡◌, ⊎_elim, ℕ, suc, ◌+◌, ◌-◌, ◌<◌, ◌≤◌, Bool, true, false, List, ◌++◌, length, Option, Some, None, refl, sym, ap, subst, ◌∙◌, arith}
 use Rattle.std.specs.Prelude.{IfSome, slice_index_or}
 use Rattle.std.proofs.lemmas.Bool.{cases_lt, cases_eq}
 use Rattle.std.proofs.lemmas.Option.{same_Some}
@@ -18,9 +18,10 @@ use Rattle.indexer.specs.Turns.{Worker, release_count}
 use Rattle.index_rule.specs.Shares.{Share}
 use Rattle.indexer.specs.Once.{AreSince, IsEachOnce}
 use Rattle.command_line.specs.Grammar.{Options}
-use Rattle.firefly.specs.IndexRun.{AreAskedOnce, NoneRose, OnlyLists, OnlyReads, CallsOf, kind_of_worker, IsAt, ShowsWork, FailedAt, plan_of}
-use Rattle.firefly.specs.Looks.{Look, look_of, looks_of, told_by, IsSameTree, KeepTrees}
-use Rattle.firefly.proofs.Places.{Back, Owned, among_at, place_of, sees, seen}
+use Rattle.firefly.specs.IndexRun.{AreAskedOnce, AreSpared, NoneRose, OnlyLists, OnlyReads, CallsOf, kind_of_worker, IsAt, ShowsWork, FailedAt, plan_of}
+use Rattle.firefly.specs.Looks.{Look, look_at, look_of, looks_of, told_by, IsSameTree, KeepTrees}
+use Rattle.firefly.proofs.Places.{Back, Owned, among_at, look_there, place_of, sees, seen}
+use Rattle.firefly.proofs.Spared.{all_once}
 
 -- the history, where there is one, is the plan's, and each thread's part of it is its own events
 own_part : (plan : Plan) (c : Ended IndexValue Share Path) (h : List Event) → says.IsRunOf plan c → c.trace ≡ Some h → (n : ℕ) (t : Worker) → get_elem? c.threads n ≡ some t → by_thread n h ≡ t.mine
@@ -118,22 +119,34 @@ module _ {S : Type 0} (tree : S → Option Told) (weak : S → List Path) (fault
         subst (λ (x : Look). of b.calls ≡ of x.calls ++ paths) s.2 (subst (λ (y : Look). of y.calls ≡ of (calls s.0) ++ paths) r.2 (h.since k s.0 r.0 paths s.1 r.1 at));
   }
 
-  -- each directory was listed once, and each file read once
-  pub asked_once : (o : Options) (told : Option Told) (old new : List (Option S)) → told_by (looks_of look old) ≡ told → IfSome told (λ t. IsEachOnce calls t o.directory (o.walkers + o.parsers) old new)
-      → AreAskedOnce o (looks_of look old) (looks_of look new)
-  asked_once o told old new first h =
-      subst (λ (q : Option Told). IfSome q (λ t. IsEachOnce (λ (l : Look). l.calls) t o.directory (o.walkers + o.parsers) (looks_of look old) (looks_of look new))) (sym first)
-      (if_some told (λ t. IsEachOnce calls t o.directory (o.walkers + o.parsers) old new) (λ t. IsEachOnce (λ (l : Look). l.calls) t o.directory (o.walkers + o.parsers) (looks_of look old) (looks_of look new))
-      (λ t e. record {
-        listed = e.listed;
-        listed_since = since_seen (λ c. c.listed) (o.walkers + o.parsers) old new e.listed e.listed_since;
-        listed_once = e.listed_once;
-        listed_all = e.listed_all;
-        read = e.read;
-        read_since = since_seen (λ c. c.files_read) (o.walkers + o.parsers) old new e.read e.read_since;
-        read_once = e.read_once;
-        read_all = e.read_all;
-      }) h)
+  -- a tree that wasn't touched looks as before
+  pub still_spared : (o : Options) (old new : List (Option S)) → ((i : ℕ) (d : Option S) → o.walkers + o.parsers < i → slice_index_or new i d ≡ slice_index_or old i d)
+      → AreSpared o (looks_of look old) (looks_of look new)
+  still_spared o old new others k low = look_there look new k ∙ (ap (look_at look) (others k None low) ∙ sym (look_there look old k))
+
+  once_seen : (n : ℕ) (t : Told) (root : Path) (old new : List (Option S)) → IsEachOnce calls t root n old new → IsEachOnce (λ (l : Look). l.calls) t root n (looks_of look old) (looks_of look new)
+  once_seen n t root old new e = record {
+    listed = e.listed;
+    listed_since = since_seen (λ c. c.listed) n old new e.listed e.listed_since;
+    listed_once = e.listed_once;
+    listed_all = e.listed_all;
+    read = e.read;
+    read_since = since_seen (λ c. c.files_read) n old new e.read e.read_since;
+    read_once = e.read_once;
+    read_all = e.read_all;
+  }
+
+  -- each directory was listed once, and each file read once, over all trees
+  pub asked_once : (o : Options) (told : Option Told) (old new : List (Option S)) → told_by (looks_of look old) ≡ told → o.walkers + o.parsers < length (looks_of look old)
+      → AreSpared o (looks_of look old) (looks_of look new) → IfSome told (λ t. IsEachOnce calls t o.directory (o.walkers + o.parsers) old new) → AreAskedOnce o (looks_of look old) (looks_of look new)
+  asked_once o told old new first wide spared h =
+      let n = o.walkers + o.parsers in
+      let m = length (looks_of look old) - 1 - n in
+      let all : n + m ≡ length (looks_of look old) - 1 = omega arith in
+      subst (λ (q : Option Told). IfSome q (λ t. IsEachOnce (λ (l : Look). l.calls) t o.directory (length (looks_of look old) - 1) (looks_of look old) (looks_of look new))) (sym first)
+      (if_some told (λ t. IsEachOnce calls t o.directory n old new) (λ t. IsEachOnce (λ (l : Look). l.calls) t o.directory (length (looks_of look old) - 1) (looks_of look old) (looks_of look new))
+      (λ t e. subst (λ (k : ℕ). IsEachOnce (λ (l : Look). l.calls) t o.directory k (looks_of look old) (looks_of look new)) all
+      (all_once (λ (l : Look). l.calls) n m (looks_of look old) (looks_of look new) spared t o.directory (once_seen n t o.directory old new e))) h)
 
   -- the path that is answered is one at which a call on a tree failed
   pub failed_at : (o : Options) (old new : List (Option S)) (path : Path) → KeepTrees (looks_of look old) (looks_of look new) → says.IsCausedAt tree weak faults calls o.directory old new path

@@ -5,3 +5,5 @@ pub mod IndexRuns
 pub mod Indexed
 pub mod Ran
 pub mod OneIndex
+pub mod Spared
+pub mod Finding

@@ -1,5 +1,5 @@
 -- What an index run does to the trees, and why it may give no index.
-use Rattle.std.specs.Prelude.{◌≡◌, ℕ, suc, ◌+◌, ◌<◌, ◌≤◌, Bool, List, ◌++◌, length, nat_lt, if◌then◌else◌, slice_index_or, Option, Some, None, IfSome}
+use Rattle.std.specs.Prelude.{◌≡◌, ℕ, suc, ◌+◌, ◌-◌, ◌<◌, ◌≤◌, Bool, List, ◌++◌, length, nat_lt, if◌then◌else◌, slice_index_or, Option, Some, None, IfSome}
 use Rattle.firefly_outside.specs.Causes.{Rose}
 use Rattle.firefly_outside.specs.Trees.{Path, Calls}
 use Rattle.firefly_outside.specs.Under.{AreMany}
@@ -33,11 +33,14 @@ NoneRose old new = (a b : Look) → Among old new a b → b.faults ≡ a.faults
 abbrev pub IsTheIndex : Options → List (Option Look) → Index → Type 0
 IsTheIndex o old piece = IfSome (told_by old) (λ t. IsWhole t o.directory o.stop_after piece)
 
--- if the trees' contents are known: over the trees of the workers and of the closing walk together
--- the directories under that of the options were listed, each once, and the files under it were
--- read, each once
+-- where the trees tell, over all of them together the directories under the one that is told were listed, each once, and the files under it
+-- were read, each once
 abbrev pub AreAskedOnce : Options → List (Option Look) → List (Option Look) → Type 0
-AreAskedOnce o old new = IfSome (told_by old) (λ t. IsEachOnce (λ (l : Look). l.calls) t o.directory (o.walkers + o.parsers) old new)
+AreAskedOnce o old new = IfSome (told_by old) (λ t. IsEachOnce (λ (l : Look). l.calls) t o.directory (length old - 1) old new)
+
+-- each tree after those of the walkers, the parsers and the closing walk is as it was: nothing was asked of it
+abbrev pub AreSpared : Options → List (Option Look) → List (Option Look) → Type 0
+AreSpared o old new = (k : ℕ) → o.walkers + o.parsers < k → slice_index_or new k None ≡ slice_index_or old k None
 
 -- only directories were listed, no more often than these events release mutex 0
 pub record OnlyLists (before now : Calls) (own : List Event) : Type 0 where

@@ -16,6 +16,7 @@ use Rattle.firefly.specs.RunCommand.{RunAnswers, Decides}
 use Rattle.firefly.specs.SampleCommand.{SampleAnswers}
 use Rattle.firefly.specs.Looks.{Look}
 use Rattle.firefly.specs.IndexCommand.{IndexAnswers}
+use Rattle.firefly.specs.IndexRun.{AreSpared}
 use Rattle.firefly.specs.TraceCommand.{TraceAnswers}
 
 -- what a call did to the objects that were passed
@@ -42,8 +43,10 @@ abbrev pub Answers : Task → Effects → Status → Type 0
 Answers check e status =
     CheckAnswers e.input e.out e.notes status × Found e.input status × TellsFault e.input status × (e.new_trees ≡ e.trees)
 Answers run e status = RunAnswers e.input e.out e.notes status × Decides e.input status × (e.new_trees ≡ e.trees)
-Answers (index o) e status = IndexAnswers o e.trees e.new_trees e.out e.notes status × IsStill e.input
-Answers (trace o) e status = TraceAnswers o e.trees e.new_trees e.out e.notes status × IsStill e.input
+Answers (index o) e status =
+    IndexAnswers o e.trees e.new_trees e.out e.notes status × AreSpared o e.trees e.new_trees × IsStill e.input
+Answers (trace o) e status =
+    TraceAnswers o e.trees e.new_trees e.out e.notes status × AreSpared o e.trees e.new_trees × IsStill e.input
 Answers (sample seed files) e status = SampleAnswers seed files e.out e.notes status × IsStill e.input × (e.new_trees ≡ e.trees)
 Answers (jobs workers) e status =
     JobsAnswers e.input e.out e.notes status × JobsDecided e.input status × TellsFault e.input status × (e.new_trees ≡ e.trees)

@@ -6,6 +6,7 @@ ghost use Rattle.index_print.specs.Text.{index_text};
 ghost use Rattle.command_endings.specs.Changes.{change_of};
 ghost use Rattle.command_endings.specs.Printing.{Prints};
 ghost use Rattle.firefly.specs.IndexCommand.{IndexAnswers};
+ghost use Rattle.firefly.specs.IndexRun.{AreSpared};
 ghost use Rattle.firefly.specs.Looks.{Agree, AreOwn, KeepTrees, look_of, looks_of};
 
 use crate::index_run::index_by;
@@ -47,6 +48,8 @@ pub fn run_index<R: Threads + Wait + Sync, S: Tree, O: Sink, N: Sink>(
     ensures kept { result ≢ Status.Memory → KeepTrees (looks_of (look_of S.tree S.may_fail S.calls S.faults) trees.old)
         (looks_of (look_of S.tree S.may_fail S.calls S.faults) trees.new) }
     ensures own { AreOwn (looks_of (look_of S.tree S.may_fail S.calls S.faults) trees.old)
+        (looks_of (look_of S.tree S.may_fail S.calls S.faults) trees.new) }
+    ensures spared { AreSpared (options_of options.now) (looks_of (look_of S.tree S.may_fail S.calls S.faults) trees.old)
         (looks_of (look_of S.tree S.may_fail S.calls S.faults) trees.new) }
 {
     match index_by(rt, alloc, options, false, trees, notes) {

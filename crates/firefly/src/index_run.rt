@@ -6,7 +6,7 @@ ghost use Rattle.command_line.specs.Tasks.{options_of};
 ghost use Rattle.indexer.specs.Plans.{IsPlan};
 ghost use Rattle.indexer.specs.Says.{IsRunOf};
 ghost use Rattle.command_endings.specs.Changes.{change_of};
-ghost use Rattle.firefly.specs.IndexRun.{AreAskedOnce, IsTheIndex, NoIndex, NoneRose, ShowsWork, plan_of};
+ghost use Rattle.firefly.specs.IndexRun.{AreAskedOnce, AreSpared, IsTheIndex, NoIndex, NoneRose, ShowsWork, plan_of};
 ghost use Rattle.firefly.specs.Looks.{Agree, AreOwn, KeepTrees, look_of, looks_of};
 
 use command_endings::{Ending, Status, ends};
@@ -65,6 +65,8 @@ pub fn index_by<R: Threads + Wait + Sync, S: Tree, N: Sink>(
     ensures kept { result ≢ Err Status.Memory → KeepTrees (looks_of (look_of S.tree S.may_fail S.calls S.faults) trees.old)
         (looks_of (look_of S.tree S.may_fail S.calls S.faults) trees.new) }
     ensures own { AreOwn (looks_of (look_of S.tree S.may_fail S.calls S.faults) trees.old)
+        (looks_of (look_of S.tree S.may_fail S.calls S.faults) trees.new) }
+    ensures spared { AreSpared (options_of options.now) (looks_of (look_of S.tree S.may_fail S.calls S.faults) trees.old)
         (looks_of (look_of S.tree S.may_fail S.calls S.faults) trees.new) }
 {
     let plan = plan_by(options, traced);

@@ -1,5 +1,5 @@
 //! Laws of the commands.
-ghost use Rattle.firefly.specs.Laws.{AcceptsRuns, AcceptsIndexRuns, AcceptsRounds, IsOneIndex};
+ghost use Rattle.firefly.specs.Laws.{AcceptsRuns, AcceptsIndexRuns, AcceptsRounds, FindsIndexed, IsOneIndex};
 
 /// `check` accepts what `run` writes.
 pub fn check_accepts_runs()
@@ -20,4 +20,11 @@ pub fn check_accepts_rounds()
 /// thread give the same.
 pub fn one_index_of_a_tree()
     ensures { IsOneIndex }
+{}
+
+/// `find` reads what `index` writes: a query on the index text of a tree names exactly the files of the tree that the query means.
+///
+/// The paths of the files are UTF-8 and not empty, and the files and the bytes of each are fewer than 2 to the power of 64.
+pub fn find_reads_what_index_writes()
+    ensures { FindsIndexed }
 {}

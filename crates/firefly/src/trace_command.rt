@@ -3,6 +3,7 @@ ghost use Rattle.std.specs.Prelude.{◌≡◌, ◌≢◌, ◌≤◌, length};
 ghost use Rattle.command_line.specs.Grammar.{AreInRange};
 ghost use Rattle.command_line.specs.Tasks.{options_of};
 ghost use Rattle.command_endings.specs.Changes.{change_of};
+ghost use Rattle.firefly.specs.IndexRun.{AreSpared};
 ghost use Rattle.firefly.specs.Looks.{Agree, AreOwn, KeepTrees, look_of, looks_of};
 ghost use Rattle.firefly.specs.TraceCommand.{TraceAnswers};
 
@@ -33,6 +34,8 @@ pub fn run_trace<R: Threads + Wait + Sync, S: Tree, O: Sink, N: Sink>(
     ensures kept { result ≢ Status.Memory → KeepTrees (looks_of (look_of S.tree S.may_fail S.calls S.faults) trees.old)
         (looks_of (look_of S.tree S.may_fail S.calls S.faults) trees.new) }
     ensures own { AreOwn (looks_of (look_of S.tree S.may_fail S.calls S.faults) trees.old)
+        (looks_of (look_of S.tree S.may_fail S.calls S.faults) trees.new) }
+    ensures spared { AreSpared (options_of options.now) (looks_of (look_of S.tree S.may_fail S.calls S.faults) trees.old)
         (looks_of (look_of S.tree S.may_fail S.calls S.faults) trees.new) }
 {
     match index_by(rt, alloc, options, true, trees, notes) {

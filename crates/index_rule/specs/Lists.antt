@@ -1,5 +1,5 @@
 -- What threads do to the list of directories.
-use Rattle.std.specs.Prelude.{◌≡◌, ◌⊎◌, ℕ, ◌+◌, ◌≤◌, ◌<◌, List, [], ◌++◌, length}
+use Rattle.std.specs.Prelude.{◌≡◌, ◌⊎◌, ℕ, ◌+◌, ◌-◌, ◌^◌, ◌≤◌, ◌<◌, true, false, min, List, [], ◌++◌, length, Some, None}
 use Rattle.std.specs.Option.{option_to_list}
 use Rattle.firefly_outside.specs.Trees.{Path}
 use Rattle.index_rule.specs.declared.dirs.PutDirs.{PutDirs}
@@ -8,11 +8,21 @@ use Rattle.index_rule.specs.declared.dirs.NextDir.{NextDir}
 use Rattle.index_rule.specs.declared.dirs.NextDir.TheVariants.{Now, Wait}
 use Rattle.index_rule.specs.declared.value.DirsInWork.{DirsInWork}
 use Rattle.index_rule.specs.declared.value.FoundCounts.{FoundCounts}
+use Rattle.index_rule.specs.declared.value.WaitingDirs.{WaitingDirs}
 
 -- the directory that a walker got
 abbrev pub got_in : NextDir → List Path
 got_in (Now dir) = option_to_list dir
 got_in Wait = []
+
+-- Who asks the list for a directory gets one, and one more is in work, as far as the counter goes; or none, where the list is shut, or nothing
+-- waits and nothing is in work; or is to wait, where the list is open and nothing waits, but something is in work.
+abbrev pub IsTakenSo : WaitingDirs → WaitingDirs → NextDir → Type 0
+IsTakenSo old new (Now (Some dir)) = (old.shut ≡ false) × (new.shut ≡ false) × (new.in_work ≡ min (old.in_work + 1) (2 ^ 32 - 1))
+IsTakenSo old new (Now None) =
+    ((old.shut ≡ true) ⊎ ((old.waiting.items ≡ []) × (old.in_work ≡ 0))) × (new.shut ≡ old.shut) × (new.in_work ≡ old.in_work)
+IsTakenSo old new Wait =
+    (old.shut ≡ false) × (old.waiting.items ≡ []) × (0 < old.in_work) × (new.shut ≡ false) × (new.in_work ≡ old.in_work)
 
 -- neither limit is passed
 abbrev pub IsWithin : FoundCounts → Type 0

@@ -1,6 +1,6 @@
 //! The list of directories: what walkers take from it, and what they put there.
 ghost use Rattle.std.specs.Prelude.{◌≡◌, ◌++◌, ◌+◌, ◌<◌, ◌⊎◌, ◌↔◌, length, IsTrue};
-ghost use Rattle.index_rule.specs.Lists.{got_in, IsPutSo};
+ghost use Rattle.index_rule.specs.Lists.{got_in, IsPutSo, IsTakenSo};
 ghost use Rattle.index_rule.specs.Work.{IsBehind};
 ghost use Rattle.index_rule.specs.declared.value.IndexValue.TheVariants.{Dirs};
 
@@ -52,9 +52,11 @@ pub fn dirs_in(value: IndexValue) -> DirsInWork
     }
 }
 
-/// Takes the last directory, which is then being listed; all others stay.
+/// Takes the last directory, which is in work from now on; all others stay. None comes where the list is shut, or where nothing waits and
+/// nothing is in work.
 pub fn take_dir(list: &mut WaitingDirs) -> NextDir
-    ensures { list.old.waiting.items ≡ list.new.waiting.items ++ got_in result }
+    ensures waiting { list.old.waiting.items ≡ list.new.waiting.items ++ got_in result }
+    ensures taken { IsTakenSo list.old list.new result }
 {
     if list.shut {
         return NextDir::Now(None);

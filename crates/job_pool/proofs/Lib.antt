@@ -9,3 +9,4 @@ pub mod Crewing
 pub mod Settling
 pub mod SharedOut
 pub mod Turning
+pub mod Stopping

@@ -41,6 +41,16 @@ at_set [] n x low = absurd (omega arith)
 at_set (a ∷ xs) zero x low = refl
 at_set (a ∷ xs) (suc n) x low = at_set xs n x (omega arith)
 
+pub set_after : {A : Type 0} (xs : List A) (n k : ℕ) (x : A) → n < k → get_elem? (set xs n x) k ≡ get_elem? xs k
+set_after [] n k x low = refl
+set_after (a ∷ xs) n zero x low = absurd (omega arith)
+set_after (a ∷ xs) zero (suc k) x low = refl
+set_after (a ∷ xs) (suc n) (suc k) x low = set_after xs n k x (omega arith)
+
+pub each_append : {A : Type 0} (P : A → Type 0) (xs ys : List A) → AllByRecursion P xs → AllByRecursion P ys → AllByRecursion P (xs ++ ys)
+each_append P [] ys h k = k
+each_append P (x ∷ xs) ys h k = (h.0, each_append P xs ys h.1 k)
+
 pub each_prefix : {A : Type 0} (P : A → Type 0) (xs ys : List A) → AllByRecursion P (xs ++ ys) → AllByRecursion P xs
 each_prefix P [] ys h = tt
 each_prefix P (x ∷ xs) ys h = (h.0, each_prefix P xs ys h.1)

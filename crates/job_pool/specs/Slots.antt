@@ -1,5 +1,5 @@
 -- Jobs with what they gave.
-use Rattle.std.specs.Prelude.{◌≡◌, ◌⊎◌, ℕ, ◌≤◌, Bool, true, false, List, [], ◌∷◌, ◌++◌, Option as Opt, Some, None}
+use Rattle.std.specs.Prelude.{◌≡◌, ◌≢◌, ◌⊎◌, ℕ, ◌<◌, ◌≤◌, Bool, true, false, List, [], ◌∷◌, ◌++◌, Option as Opt, Some, None}
 use Rattle.std.specs.List.{AllZip}
 use mathlib.Core.Option.{some}
 use lib.ListN.{get_elem?}
@@ -47,6 +47,19 @@ pub record StopsAt {J : Type 0} (k : ℕ) (slots : List (Slot J)) : Type 0 where
   pub slot : Slot J
   pub is_slot : get_elem? slots k ≡ some slot
   pub stops : slot.answer ≡ Some Stop
+
+-- a job of these slots gave Stop
+abbrev pub HasStop : {J : Type 0} → List (Slot J) → Type 0
+HasStop slots = (k : ℕ) × StopsAt k slots
+
+-- the job of the slot gave no Stop
+abbrev pub HasNoStop : {J : Type 0} → Slot J → Type 0
+HasNoStop s = s.answer ≢ Some Stop
+
+-- the job at the place k gave Stop, and what comes after it is as it was
+pub record EndsAt {J : Type 0} (k : ℕ) (old new : List (Slot J)) : Type 0 where
+  pub stops : StopsAt k new
+  pub after : (i : ℕ) → k < i → get_elem? new i ≡ get_elem? old i
 
 -- each job of the batch was called at most once
 abbrev pub MayBeWorked : {J : Type 0} → (J → List ℕ) → (J → Work) → (J → List ℕ) → Batch J → Batch J → Type 0

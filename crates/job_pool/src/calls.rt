@@ -2,6 +2,9 @@
 ghost use Rattle.std.specs.Prelude.{◌≡◌, ◌<◌, ◌+◌, ◌∷◌, [], ℕ, IfOk, IfErr, true};
 ghost use Rattle.bounded_buffer.specs.Plain.{IsPlain};
 ghost use Rattle.bounded_buffer.specs.declared.ends.TakeEnd.TheVariants.{ClosedEmpty};
+ghost use Rattle.nub.specs.Rest.{Added, Adds};
+ghost use Rattle.nub_rule.specs.Plays.{test_alert_event};
+ghost use Rattle.job_pool.specs.Stopping.{alerts_by};
 ghost use Rattle.job_pool.specs.Working.{HasBuffer, IsBetween, HasMoved, has_seen_end};
 
 use crate::item::{Item, Pieces};
@@ -73,14 +76,15 @@ pub fn shut_off<T: Send + Drop, R: Wait>(rt: &R, p: &Package<Pieces<T>>, me: &mu
     shut(rt, p, me, &at);
 }
 
-/// Returns whether the thread was alerted, and so is to stop.
+/// Whether the thread is to stop, as its alert says.
 pub fn is_stopped<T: Send + Drop, R: Wait>(
     rt: &R,
     p: &Package<Pieces<T>>,
     me: &mut Thread<Pieces<T>>,
 ) -> bool
     requires between { (n : ℕ) × IsBetween p.now n me.old }
-    ensures { HasMoved p.now [] [] me.old me.new }
+    ensures moved { HasMoved p.now [] [] me.old me.new }
+    ensures event { Adds [] (test_alert_event me.old.number result) me.old me.new }
 {
     test_alert(rt, p, me)
 }
@@ -92,7 +96,8 @@ pub fn stop_others<T: Send + Drop, R: Wait>(
     me: &mut Thread<Pieces<T>>,
 )
     requires between { (n : ℕ) × IsBetween p.now n me.old }
-    ensures { HasMoved p.now [] [] me.old me.new }
+    ensures moved { HasMoved p.now [] [] me.old me.new }
+    ensures alerts { Added (alerts_by me.old.number p.now.layout.threads) me.old me.new }
 {
     for t in 0..p.layout().threads {
         if t != me.number() {

@@ -3,9 +3,9 @@ ghost use Rattle.std.specs.Prelude.{◌≡◌, ◌≤◌, ◌<◌, ◌+◌, [], 
 ghost use Rattle.std.specs.List.{AllByRecursion, AllZip};
 ghost use Rattle.job_pool.specs.declared.job.Work.TheVariants.{Value};
 ghost use Rattle.job_pool.specs.Jobs.{HasEnded};
-ghost use Rattle.job_pool.specs.Slots.{HasValue, IsRoom, MayBeCalled, StopsAt};
+ghost use Rattle.job_pool.specs.Slots.{HasNoStop, HasStop, HasValue, IsRoom, MayBeCalled, StopsAt};
 
-use crate::batch::Batch;
+use crate::batch::{Batch, call_all};
 use crate::cutting::{batch_size, cut, join, lists};
 use crate::job::{Job, Work};
 use crate::pool_end::PoolEnd;
@@ -17,7 +17,7 @@ use std::thread::Threads;
 
 /// Returns the place of a job that gave Stop, if one did.
 fn place_of_stop<J: Job>(slots: &[Slot<J>]) -> Option<u64>
-    ensures { IfSome result (λ k. StopsAt k slots.now) }
+    ensures { MatchOption result (AllByRecursion HasNoStop slots.now) (λ k. StopsAt k slots.now) }
 {
     let mut place = 0;
     for slot in slots {
@@ -29,23 +29,17 @@ fn place_of_stop<J: Job>(slots: &[Slot<J>]) -> Option<u64>
     None
 }
 
-/// Calls each job that no worker called, up to the first that gives Stop, unless one gave it
-/// already. Returns the place of one that did.
+/// Calls each job that no worker called, up to the first that gives Stop, and returns the place of one that did. If one gave it before, none
+/// is called.
 fn finish<J: Job>(slots: &mut [Slot<J>]) -> Option<u64>
     ensures called { AllZip (MayBeCalled J.state J.gives J.next) slots.old slots.new }
     ensures ends { MatchOption result (AllByRecursion HasValue slots.new) (λ k. StopsAt k slots.new) }
+    ensures stays { HasStop slots.old → slots.new ≡ slots.old }
 {
-    if let Some(place) = place_of_stop(slots) {
-        return Some(place);
+    match place_of_stop(slots) {
+        Some(place) => Some(place),
+        None => call_all(slots),
     }
-    let mut place = 0;
-    for slot in slots.iter_mut() {
-        if slot.call() {
-            return Some(place);
-        }
-        place += 1;
-    }
-    None
 }
 
 /// Lists that are filled later, each with room for all that it will have.

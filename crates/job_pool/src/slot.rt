@@ -1,5 +1,5 @@
 //! A job and what it gave.
-ghost use Rattle.std.specs.Prelude.{◌≡◌, true, Some};
+ghost use Rattle.std.specs.Prelude.{◌≡◌, ◌↔◌, IsTrue, Some};
 ghost use Rattle.job_pool.specs.declared.job.Work.TheVariants.{Stop};
 ghost use Rattle.job_pool.specs.Slots.{MayBeCalled, Says};
 
@@ -34,7 +34,7 @@ impl<J: Job> Slot<J> {
 
     /// Returns whether the job was called and gave Stop.
     pub fn has_stopped(&self) -> bool
-        ensures { result ≡ true → self.now.answer ≡ Some Stop }
+        ensures { IsTrue result ↔ (self.now.answer ≡ Some Stop) }
     {
         match self.answer {
             Some(Work::Stop) => true,

@@ -1,8 +1,6 @@
 //! The work of one worker.
-ghost use Rattle.std.specs.Prelude.{◌≡◌};
 ghost use Rattle.job_pool.specs.Crews.{IsReady};
-ghost use Rattle.job_pool.specs.Slots.{MayBeWorked};
-ghost use Rattle.job_pool.specs.Working.{HasWorked};
+ghost use Rattle.job_pool.specs.Stopping.{HasEndedWork};
 
 use crate::batch::{Batch, work_on};
 use crate::calls::{is_stopped, stop_others, take_next};
@@ -20,7 +18,7 @@ pub fn work_batches<J: Job, R: Wait>(
     worker: Worked<Batch<J>>,
 ) -> Worked<Batch<J>>
     requires { IsReady p.now room worker }
-    ensures { HasWorked (MayBeWorked J.state J.gives J.next) p.now worker.0.number result.1.items result.0 }
+    ensures { HasEndedWork J.state J.gives J.next p.now worker.0.number result.1.items result.0 }
 {
     let (mut me, mut list) = worker;
     for turn in 0..room {

@@ -1,5 +1,6 @@
 -- A thread that took a mutex, waited under it, and has it again.
-use Rattle.std.proofs.Common.{◌≡◌, ℕ, false, true, zero, suc, List, [], ◌∷◌, ◌++◌, Some, slice_set, sym, subst, ap, ◌∙◌, refl}
+use Rattle.std.proofs.Common.{◌≡◌, ℕ, false, true, zero, suc, List, [], ◌∷◌, ◌++◌, Some, slice_set, sym, subst, ap, ◌∙◌, refl, length, length-append, arith}
+use Rattle.std.specs.List.{AllByRecursion}
 use Rattle.std.proofs.lemmas.List.{append-nil}
 use Rattle.std.proofs.lemmas.Option.{same_Some}
 use Rattle.atomic_table.proofs.Lists.{set_again}
@@ -14,7 +15,7 @@ use Rattle.nub.proofs.Users.{same_on}
 use Rattle.condition.specs.Waits.{resume_event}
 use Rattle.alert_wait.specs.declared.outcome.Outcome.TheVariants.{Returned}
 use Rattle.alert_wait.specs.Outcomes.{wait_end}
-use Rattle.monitor.specs.Waits.{alert_waits, waits}
+use Rattle.monitor.specs.Waits.{AreRefused, IsRefused, alert_waits, first_of, waits}
 
 pub waits_more : (t m c k : ℕ) → waits t m c k ++ enqueue_event false t m c ∷ resume_event t m c ∷ [] ≡ waits t m c (suc k)
 waits_more t m c zero = refl
@@ -23,6 +24,40 @@ waits_more t m c (suc k) = ap (λ l. enqueue_event false t m c ∷ resume_event 
 pub alert_waits_more : (t m c k : ℕ) → alert_waits t m c k ++ enqueue_event true t m c ∷ wait_end Returned t m c ∷ [] ≡ alert_waits t m c (suc k)
 alert_waits_more t m c zero = refl
 alert_waits_more t m c (suc k) = ap (λ l. enqueue_event true t m c ∷ wait_end Returned t m c ∷ l) (alert_waits_more t m c k)
+
+-- no value was refused yet
+pub none_refused : {V : Type 0} (refused : V → Type 0) (got : V) → IsRefused refused got 0 got
+none_refused refused got = record { all = record { seen = []; count = refl; each = tt }; first = refl }
+
+refused_on : {V : Type 0} (refused : V → Type 0) (xs : List V) (x : V) → AllByRecursion refused xs → refused x → AllByRecursion refused (xs ++ x ∷ [])
+refused_on refused [] x all one = (one, tt)
+refused_on refused (y ∷ xs) x all one = (all.0, refused_on refused xs x all.1 one)
+
+first_on : {V : Type 0} (xs : List V) (x y : V) → first_of (xs ++ x ∷ []) y ≡ first_of xs x
+first_on [] x y = refl
+first_on (z ∷ xs) x y = refl
+
+one_longer : {V : Type 0} (xs : List V) (x : V) (k : ℕ) → length xs ≡ k → length (xs ++ x ∷ []) ≡ suc k
+one_longer xs x k long = let more = length-append xs (x ∷ []) in omega arith
+
+-- the value in hand was refused too, and another came
+pub one_refused : {V : Type 0} (refused : V → Type 0) (got : V) (k : ℕ) (x y : V) → IsRefused refused got k x → refused x → IsRefused refused got (suc k) y
+one_refused refused got k x y h one = record {
+  all = record {
+    seen = h.all.seen ++ x ∷ [];
+    count = one_longer h.all.seen x k h.all.count;
+    each = refused_on refused h.all.seen x h.all.each one;
+  };
+  first = first_on h.all.seen x y ∙ h.first;
+}
+
+all_as : {V : Type 0} (P Q : V → Type 0) → ((x : V) → P x → Q x) → (xs : List V) → AllByRecursion P xs → AllByRecursion Q xs
+all_as P Q turn [] all = tt
+all_as P Q turn (x ∷ xs) all = (turn x all.0, all_as P Q turn xs all.1)
+
+-- what is so of a refused value is so of all
+pub refused_as : {V : Type 0} (P Q : V → Type 0) (k : ℕ) → ((x : V) → P x → Q x) → AreRefused P k → AreRefused Q k
+refused_as P Q k turn r = record { seen = r.seen; count = r.count; each = all_as P Q turn r.seen r.each }
 
 module _ {T H W : Type 0} where
   -- since a the thread added these events, and it has the mutex m with the value x, which fits; its share is as it was

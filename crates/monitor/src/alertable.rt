@@ -1,10 +1,10 @@
 //! The calls of a monitor that an alert may end.
-ghost use Rattle.std.specs.Prelude.{◌≡◌, ℕ, ◌<◌, ◌∷◌, ◌++◌, slice_set, IfSome, MatchOption, Some, None, true};
+ghost use Rattle.std.specs.Prelude.{◌≡◌, ℕ, ◌<◌, ◌∷◌, ◌++◌, slice_set, IfSome, MatchOption, Some, None, true, false};
 ghost use Rattle.std.specs.Fn.{FnOnceReturnsAtMut, FnReturnsAt};
 ghost use mathlib.Core.Option.{some};
 ghost use lib.ListN.{get_elem?};
 ghost use Rattle.alert_wait.specs.declared.outcome.Outcome.TheVariants.{Returned};
-ghost use Rattle.monitor.specs.Waits.{alert_waits, last_wait, outcome_of};
+ghost use Rattle.monitor.specs.Waits.{AreRefused, IsRefused, alert_waits, all_waits, last_wait, outcome_of};
 ghost use Rattle.nub_rule.specs.Known.{Holds};
 ghost use Rattle.nub_rule.specs.Plays.{acquire_event, release_event};
 ghost use Rattle.nub.specs.Holding.{IsHolding};
@@ -49,7 +49,8 @@ pub fn alert_wait_until<U: Uses, T: Fn(&U::Value) -> bool, R: Wait>(
     ensures tested { result.0 ≡ Returned → FnReturnsAt T.Fn test.now result.1 true }
     ensures rest { AtRest p.now me.new }
     ensures same { IsSame me.old me.new }
-    ensures event { (k : ℕ) × Added (alert_waits me.old.number m.0 c.0 k ++ last_wait me.old.number m.0 c.0 result.0) me.old me.new }
+    ensures event { (k : ℕ) × Added (alert_waits me.old.number m.0 c.0 k ++ last_wait me.old.number m.0 c.0 result.0) me.old me.new
+        × IsRefused (λ x. FnReturnsAt T.Fn test.now x false) got (all_waits result.0 k) result.1 }
     ensures holds { Holds me.new m.0 result.1 }
     ensures held { me.new.held ≡ slice_set me.old.held m.0 (Some result.1) }
     ensures share { me.new.share ≡ me.old.share }
@@ -101,7 +102,8 @@ pub fn alert_locked_when<
     ensures rest { AtRest p.now me.new }
     ensures same { IsSame me.old me.new }
     ensures event { (k : ℕ) × Adds (acquire_event me.old.number m.0 ∷ (alert_waits me.old.number m.0 c.0 k
-        ++ last_wait me.old.number m.0 c.0 (outcome_of result))) (release_event me.old.number m.0) me.old me.new }
+        ++ last_wait me.old.number m.0 c.0 (outcome_of result))) (release_event me.old.number m.0) me.old me.new
+        × AreRefused (λ x. FnReturnsAt T.Fn test.now x false) (all_waits (outcome_of result) k) }
     ensures held { me.new.held ≡ me.old.held }
     ensures alerted { result ≡ None → me.new.share ≡ me.old.share }
     ensures answer { IfSome result (λ r. (x : U.Value) × (y : U.Value) × FnReturnsAt T.Fn test.now x true

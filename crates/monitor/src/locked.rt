@@ -1,9 +1,9 @@
 //! Working on the value of a mutex once it passes a test.
-ghost use Rattle.std.specs.Prelude.{◌≡◌, ℕ, ◌<◌, ◌∷◌, Some, None, true};
+ghost use Rattle.std.specs.Prelude.{◌≡◌, ℕ, ◌<◌, ◌∷◌, Some, None, true, false};
 ghost use Rattle.std.specs.Fn.{FnOnceReturnsAtMut, FnReturnsAt};
 ghost use mathlib.Core.Option.{some};
 ghost use lib.ListN.{get_elem?};
-ghost use Rattle.monitor.specs.Waits.{waits};
+ghost use Rattle.monitor.specs.Waits.{AreRefused, waits};
 ghost use Rattle.nub_rule.specs.Plays.{acquire_event, release_event};
 ghost use Rattle.nub.specs.Idle.{IsIdle};
 ghost use Rattle.nub.specs.Rest.{Adds, AtRest, IsSame};
@@ -53,7 +53,7 @@ pub fn locked_when<
     ensures rest { AtRest p.now me.new }
     ensures same { IsSame me.old me.new }
     ensures event { (k : ℕ) × Adds (acquire_event me.old.number m.0 ∷ waits me.old.number m.0 c.0 k)
-        (release_event me.old.number m.0) me.old me.new }
+        (release_event me.old.number m.0) me.old me.new × AreRefused (λ x. FnReturnsAt T.Fn test.now x false) k }
     ensures held { me.new.held ≡ me.old.held }
     ensures answer { (x : U.Value) × (y : U.Value) × FnReturnsAt T.Fn test.now x true × FnOnceReturnsAtMut F.FnOnce f x result y
         × ((s : U.Share) → me.old.share ≡ Some s → U.fits p.now.world m.0 x me.old.number s

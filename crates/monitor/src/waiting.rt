@@ -1,7 +1,7 @@
 //! Waiting until the value of a mutex passes a test.
-ghost use Rattle.std.specs.Prelude.{◌≡◌, ℕ, ◌<◌, slice_set, Some, true};
+ghost use Rattle.std.specs.Prelude.{◌≡◌, ℕ, ◌<◌, slice_set, Some, true, false};
 ghost use Rattle.std.specs.Fn.{FnReturnsAt};
-ghost use Rattle.monitor.specs.Waits.{waits};
+ghost use Rattle.monitor.specs.Waits.{IsRefused, waits};
 ghost use Rattle.nub_rule.specs.Known.{Holds};
 ghost use Rattle.nub.specs.Holding.{IsHolding};
 ghost use Rattle.nub.specs.Rest.{Added, AtRest, IsSame};
@@ -11,7 +11,8 @@ use larch_actions::{CondId, MutexId};
 use nub_rule::{NoChange, Package, Thread, Uses};
 use std::sync::Wait;
 
-/// Waits in the condition until the test accepts the value of the mutex, and returns that value.
+/// Waits in the condition as long as the test doesn't accept the value of the mutex, and answers the value that it accepted. It begins no
+/// wait but on a value that the test has refused.
 ///
 /// The thread must hold the mutex, and holds it again afterwards. Each wait releases the mutex with
 /// the value unchanged, which the use must allow. Blocks for ever if no value that the test accepts
@@ -43,7 +44,8 @@ pub fn wait_until<U: Uses, T: Fn(&U::Value) -> bool, R: Wait>(
     ensures tested { FnReturnsAt T.Fn test.now result true }
     ensures rest { AtRest p.now me.new }
     ensures same { IsSame me.old me.new }
-    ensures event { (k : ℕ) × Added (waits me.old.number m.0 c.0 k) me.old me.new }
+    ensures event { (k : ℕ) × Added (waits me.old.number m.0 c.0 k) me.old me.new
+        × IsRefused (λ x. FnReturnsAt T.Fn test.now x false) got k result }
     ensures holds { Holds me.new m.0 result }
     ensures held { me.new.held ≡ slice_set me.old.held m.0 (Some result) }
     ensures share { me.new.share ≡ me.old.share }

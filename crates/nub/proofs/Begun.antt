@@ -1,5 +1,5 @@
 -- Threads before their fork, after it, and after their end.
-use Rattle.std.proofs.Common.{◌≡◌, ◌≢◌, ℕ, suc, zero, ◌+◌, ◌≤◌, List, [], ◌∷◌, ◌++◌, length, false, refl, sym, ap, ◌∙◌, subst, arith, append-nil, Some}
+use Rattle.std.proofs.Common.{◌≡◌, ◌≢◌, ℕ, suc, zero, ◌+◌, ◌<◌, ◌≤◌, List, [], ◌∷◌, ◌++◌, length, false, refl, sym, ap, ◌∙◌, subst, arith, append-nil, Some}
 use Rattle.std.specs.List.{remove}
 use mathlib.Core.Option.{some, some-ne-none}
 use lib.ListN.{get_elem?}
@@ -13,15 +13,15 @@ use Rattle.nub_rule.specs.declared.view.Kind.TheVariants.{Member}
 use Rattle.nub_rule.specs.Ends.{first_known, newborn_known}
 use Rattle.nub_rule.specs.Forks.{AreAll, IsUnborn, in_order}
 use Rattle.nub_rule.specs.Items.{Each}
-use Rattle.nub_rule.specs.Known.{Known, Makes, Shape, known_as}
-use Rattle.nub_rule.specs.Parts.{fresh}
+use Rattle.nub_rule.specs.Known.{HasNone, Known, Makes, Shape, known_as, part_of}
+use Rattle.nub_rule.specs.Parts.{HasNothing, fresh}
 use Rattle.nub_rule.specs.Rule.{begun}
 use Rattle.nub_rule.proofs.Each.{each-snoc, put-else}
 use Rattle.nub_rule.proofs.Ordering.{one-there}
 use Rattle.nub.specs.Ended.{IsFirst}
 use Rattle.nub.specs.Forks.{IsBegun, IsRight}
 use Rattle.nub.specs.Idle.{IsIdle}
-use Rattle.nub.specs.Rest.{Adds}
+use Rattle.nub.specs.Rest.{Adds, AtRest}
 use Rattle.nub.proofs.Adding.{grown, legal_as}
 use Rattle.nub.proofs.Closing.{first_living, none_held, none_there}
 
@@ -65,12 +65,12 @@ module _ {T H W : Type 0} where
   threads-only n {us = us} x k b = (λ j. x j ++ in_order n (k j ++ b j)) ∙ (ap (λ l. us ++ l) (in-order-none n) ∙ append-nil us)
 
   -- the first thread of version two lives from the opening on
-  pub first_of_two : (p : Shape W) (begin : W → ℕ → H) (t : Known T H W) → p.layout.mutexes ≤ 64 → p.layout.version ≡ Two → t ≡ first_known p.table_id Two p.world begin 0 → IsFirst p begin 0 t
-  first_of_two p begin t few two e = let P : Known T H W → Type 0 = λ k. IsFirst p begin 0 k in subst P (sym e) (first_living p begin Two 0 few two refl)
+  pub first_of_two : (p : Shape W) (begin : W → ℕ → H) (t : Known T H W) → 0 < p.layout.threads → p.layout.mutexes ≤ 64 → p.layout.version ≡ Two → t ≡ first_known p.table_id Two p.world begin 0 → IsFirst p begin 0 t
+  first_of_two p begin t low few two e = let P : Known T H W → Type 0 = λ k. IsFirst p begin 0 k in subst P (sym e) (first_living p begin Two 0 low few two refl)
 
-  pub right_is : (p : Shape W) (begin : W → ℕ → H) (n : ℕ) (t : Known T H W) → t ≡ first_known p.table_id Two p.world begin n → IsRight p begin n t
-  right_is p begin n t e = let P : Known T H W → Type 0 = λ k. IsRight p begin n k in
-      subst P (sym e) record { number = refl; left = record { of = refl; stored = λ traced lost. (refl, refl) }; world = refl; seen = refl; mine = refl; share = refl }
+  pub right_is : (p : Shape W) (begin : W → ℕ → H) (n : ℕ) (t : Known T H W) → n < p.layout.threads → t ≡ first_known p.table_id Two p.world begin n → IsRight p begin n t
+  right_is p begin n t low e = let P : Known T H W → Type 0 = λ k. IsRight p begin n k in
+      subst P (sym e) record { number = refl; left = record { of = refl; named = low; stored = λ traced lost. (refl, refl) }; world = refl; seen = refl; mine = refl; share = refl }
 
   pub unborn_is : (z : TableId) (w : W) (begin : W → ℕ → H) (n : ℕ) (t : Known T H W) → n ≢ 0 → t ≡ first_known z Two w begin n → IsUnborn begin t
   unborn_is z w begin n t ne e = let P : Known T H W → Type 0 = λ k. IsUnborn begin k in
@@ -80,12 +80,13 @@ module _ {T H W : Type 0} where
         is = λ i. known_as z n (record { world = Some w; kind = Member; number = n; part = fresh Two (unborn-first n ne i) [] (Some (begin w n)); child = No; next = 0; back = [] }, []) [] false 0;
       }
 
-  pub begun_is : (p : Shape W) (begin : W → ℕ → H) (n : ℕ) (a t : Known T H W) → p.layout.mutexes ≤ 64 → a.version ≡ p.layout.version → t ≡ newborn_known p.table_id a.version a.world begin n a.seen → IsBegun p begin n a t
-  begun_is p begin n a t few of e = let P : Known T H W → Type 0 = λ k. IsBegun p begin n a k in
+  pub begun_is : (p : Shape W) (begin : W → ℕ → H) (n : ℕ) (a t : Known T H W) → n < p.layout.threads → p.layout.mutexes ≤ 64 → a.version ≡ p.layout.version → t ≡ newborn_known p.table_id a.version a.world begin n a.seen → IsBegun p begin n a t
+  begun_is p begin n a t low few of e = let P : Known T H W → Type 0 = λ k. IsBegun p begin n a k in
       subst P (sym e) record {
         number = refl;
         rest = record {
           of = refl;
+          named = low;
           outside = record { spin = refl; queue = refl; owed = refl; left = refl; stand = refl; pen = refl; live = refl };
           wait = refl;
           raised = refl;
@@ -117,6 +118,23 @@ module _ {T H W : Type 0} where
     lacks_named = b.lacks_named;
     none = b.none;
     share = b.share ∙ ap (begun begin n) world;
+  }
+
+  -- a thread at rest without a mutex has nothing, nor with the pen
+  pub nothing_at_rest : (p : Shape W) (a b : Known T H W) → b ≡ record a { pen = b.pen; next = b.next } → AtRest p a → HasNone a → HasNothing (part_of b)
+  nothing_at_rest p a b e rest none = record {
+    none = λ m x got. none m x (ap (λ k. get_elem? k.held m) (sym e) ∙ got);
+    spin = ap (λ k. k.spin) e ∙ rest.outside.spin;
+    queue = ap (λ k. k.queue) e ∙ rest.outside.queue;
+    owed = ap (λ k. k.owed) e ∙ rest.outside.owed;
+    left = ap (λ k. k.left) e ∙ rest.outside.left;
+    wait = ap (λ k. k.wait) e ∙ rest.wait;
+    stand = ap (λ k. k.stand) e ∙ rest.outside.stand;
+    turns = ap (λ k. k.turns) e ∙ rest.turns;
+    cleared = ap (λ k. k.cleared) e ∙ rest.cleared;
+    looked = ap (λ k. k.looked) e ∙ rest.looked;
+    calling = ap (λ k. k.calling) e ∙ rest.calling;
+    raised = ap (λ k. k.raised) e ∙ rest.raised;
   }
 
   -- what one event adds, from before a step that changed nothing of the history to after one

@@ -76,11 +76,12 @@ events-of t k (e ∷ es) = events-at t k e es (eqb e.thread.0 t) (events-of t (k
 
 module _ {T H W : Type 0} where
   -- a thread that lives from the opening on
-  pub first_living : (p : Shape W) (begin : W → ℕ → H) (version : Version) (n : ℕ) → p.layout.mutexes ≤ 64 → p.layout.version ≡ version → lives_at_first version n ≡ Live → IsFirst p begin n (first_known {T = T} {H = H} p.table_id version p.world begin n)
-  first_living p begin version n few of lives = record {
+  pub first_living : (p : Shape W) (begin : W → ℕ → H) (version : Version) (n : ℕ) → n < p.layout.threads → p.layout.mutexes ≤ 64 → p.layout.version ≡ version → lives_at_first version n ≡ Live → IsFirst p begin n (first_known {T = T} {H = H} p.table_id version p.world begin n)
+  first_living p begin version n low few of lives = record {
     number = refl;
     rest = record {
       of = refl;
+      named = low;
       outside = record { spin = refl; queue = refl; owed = refl; left = refl; stand = refl; pen = refl; live = lives };
       wait = refl;
       raised = refl;
@@ -103,8 +104,8 @@ module _ {T H W : Type 0} where
     share = refl;
   }
 
-  pub first_is : (p : Shape W) (begin : W → ℕ → H) (n : ℕ) (t : Known T H W) → p.layout.mutexes ≤ 64 → p.layout.version ≡ One → t ≡ first_known p.table_id One p.world begin n → IsFirst p begin n t
-  first_is p begin n t few one e = let P : Known T H W → Type 0 = λ k. IsFirst p begin n k in subst P (sym e) (first_living p begin One n few one refl)
+  pub first_is : (p : Shape W) (begin : W → ℕ → H) (n : ℕ) (t : Known T H W) → n < p.layout.threads → p.layout.mutexes ≤ 64 → p.layout.version ≡ One → t ≡ first_known p.table_id One p.world begin n → IsFirst p begin n t
+  first_is p begin n t low few one e = let P : Known T H W → Type 0 = λ k. IsFirst p begin n k in subst P (sym e) (first_living p begin One n low few one refl)
 
   -- the same threads leave the same
   pub left_by : (layout : Layout) (holds : List T → List H → Type 0) (threads others : List (Known T H W)) (values : List T) → threads ≡ others → Leaves layout holds (map (λ t. part_of t) threads) values → Leaves layout holds (map (λ t. part_of t) others) values

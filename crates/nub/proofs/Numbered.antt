@@ -1,5 +1,5 @@
 -- Threads of a list by their numbers, and a number summed over them.
-use Rattle.std.proofs.Common.{◌≡◌, Bool, true, false, cond, eqb, ltb, ℕ, zero, suc, ◌+◌, ◌<◌, List, [], ◌∷◌, ◌++◌, length, arith, sym, ap, ◌∙◌, refl}
+use Rattle.std.proofs.Common.{◌≡◌, Bool, true, false, cond, eqb, ltb, ℕ, zero, suc, ◌+◌, ◌<◌, List, [], ◌∷◌, ◌++◌, length, take, ◌≤◌, arith, sym, ap, ◌∙◌, refl, ◌≢◌, add-one, eq-eqb, ne_eqb}
 use Rattle.std.specs.List.{All}
 use Rattle.std.proofs.lemmas.Bool.{lt-ltb}
 use Rattle.std.proofs.lemmas.Bool.Decides.{nat_tests}
@@ -7,7 +7,9 @@ use Rattle.std.proofs.lemmas.List.Elements.{All-head, All-tail}
 use Rattle.nub_rule.specs.Forks.{in_order, with_number}
 use Rattle.nub_rule.specs.Items.{Each}
 use Rattle.nub_rule.specs.Known.{Known}
-use Rattle.nub.specs.Totals.{times, total}
+use Rattle.nub.specs.Totals.{is_number, times, total}
+use mathlib.Core.Option.{some, some-injective, some-ne-none}
+use lib.ListN.{get_elem?}
 
 -- of two lists
 pub total_both : {A : Type 0} (f : A → ℕ) (xs ys : List A) → total f (xs ++ ys) ≡ total f xs + total f ys
@@ -79,3 +81,35 @@ module _ {T H W : Type 0} where
   times_opened first rights lowest each i =
       let rest = numbered-from 1 rights (λ j k at. let e = each j k at in omega arith) i in
       grind (arith, nat_tests)
+
+  -- one more of those looked at, which has the number or hasn't, and all
+  times_more : (n : ℕ) (ks : List (Known T H W)) (i : ℕ) (k : Known T H W) → get_elem? ks i ≡ some k → times n (take (suc i) ks) ≡ times n (take i ks) + is_number n k
+  times_more n [] i k at = absurd (some-ne-none k (sym at))
+  times_more n (x ∷ ks) zero k at = let e = ap (is_number n) (some-injective x k at) in omega arith
+  times_more n (x ∷ ks) (suc i) k at = let h = times_more n ks i k at in omega arith
+
+  next_take : (n : ℕ) (ks : List (Known T H W)) (i : ℕ) (k : Known T H W) → get_elem? ks i ≡ some k → times n (take (i + 1) ks) ≡ times n (take i ks) + is_number n k
+  next_take n ks i k at = ap (λ (j : ℕ). times n (take j ks)) (add-one i) ∙ times_more n ks i k at
+
+  pub counted_here : (n : ℕ) (ks : List (Known T H W)) (i : ℕ) (k : Known T H W) (c d : ℕ) → get_elem? ks i ≡ some k → k.number ≡ n → d ≡ c + 1 → (c ≡ times n (take i ks)) × (c ≤ i)
+      → (d ≡ times n (take (i + 1) ks)) × (d ≤ i + 1)
+  counted_here n ks i k c d at is more h =
+      let e = next_take n ks i k at in let one : is_number n k ≡ 1 = ap (λ b. cond b 1 0) (eq-eqb k.number n is) in let a = h.0 in let b = h.1 in (omega arith, omega arith)
+
+  pub counted_else : (n : ℕ) (ks : List (Known T H W)) (i : ℕ) (k : Known T H W) (c d : ℕ) → get_elem? ks i ≡ some k → k.number ≢ n → d ≡ c → (c ≡ times n (take i ks)) × (c ≤ i)
+      → (d ≡ times n (take (i + 1) ks)) × (d ≤ i + 1)
+  counted_else n ks i k c d at ne same h =
+      let e = next_take n ks i k at in let none : is_number n k ≡ 0 = ap (λ b. cond b 1 0) (ne_eqb k.number n ne) in let a = h.0 in let b = h.1 in (omega arith, omega arith)
+
+  times_all : (n : ℕ) (ks : List (Known T H W)) (i : ℕ) → length ks ≤ i → times n (take i ks) ≡ times n ks
+  times_all n [] zero all = refl
+  times_all n [] (suc i) all = refl
+  times_all n (x ∷ ks) zero all = absurd (omega arith)
+  times_all n (x ∷ ks) (suc i) all = let h = times_all n ks i (omega arith) in omega arith
+
+  pub counted_all : (n : ℕ) (ks : List (Known T H W)) (i c : ℕ) → length ks ≤ i → c ≡ times n (take i ks) → c ≡ times n ks
+  counted_all n ks i c all is = is ∙ times_all n ks i all
+
+  -- where one alone has the number, it is once there
+  pub once_with : (n : ℕ) (ks : List (Known T H W)) (k : Known T H W) → with_number n ks ≡ k ∷ [] → times n ks ≡ 1
+  once_with n ks k one = sym (total-with (λ k. 1) n ks) ∙ ap (total (λ k. 1)) one

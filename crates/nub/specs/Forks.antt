@@ -7,9 +7,10 @@ use Rattle.nub_rule.specs.Rule.{begun}
 use Rattle.nub.specs.Rest.{AtRest, HasStored}
 
 module _ {T H W : Type 0} where
-  -- the thread is of the package, and has stored its own events
+  -- the thread is one of the package, and has stored its own events
   pub record IsLeft (p : Shape W) (k : Known T H W) : Type 0 where
     pub of : k.table_id ≡ p.table_id
+    pub named : k.number < p.layout.threads
     pub stored : HasStored p.traced k
 
   -- the right to begin the thread n of the package, which has its first share

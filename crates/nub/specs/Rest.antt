@@ -1,5 +1,5 @@
 -- Threads with no open call, and what a call adds.
-use Rattle.std.specs.Prelude.{◌≡◌, ℕ, Bool, true, false, List, [], ◌∷◌, ◌++◌, map, None}
+use Rattle.std.specs.Prelude.{◌≡◌, ◌<◌, ℕ, Bool, true, false, List, [], ◌∷◌, ◌++◌, map, None}
 use Rattle.larch_actions.specs.declared.event.Event.{Event}
 use Rattle.larch_actions.specs.declared.event.Life.TheVariants.{Live}
 use Rattle.larch_actions.specs.Actions.{IsLegal, StartsWith, by_thread}
@@ -27,6 +27,7 @@ module _ {T H W : Type 0} where
   -- the thread is of the package, and no call of it is open
   pub record AtRest (p : Shape W) (k : Known T H W) : Type 0 where
     pub of : k.table_id ≡ p.table_id
+    pub named : k.number < p.layout.threads
     pub outside : IsOutside k
     pub wait : k.wait ≡ None
     pub raised : k.raised ≡ None

@@ -17,12 +17,12 @@ use super::pen::{begin_event, end_event};
 use larch_actions::{Action, Event, ThreadId};
 use nub_rule::{
     Ended, Package, Thread, Unborn, Uses, end_life, fork_life, hand_out, park_for_end, read_life,
-    take_right,
+    take_right, unpark_all,
 };
 use std::sync::Wait;
 
-/// Forks the thread that this right is for. The new thread has seen what the caller has, and has
-/// its first share.
+/// Forks the thread whose right to begin is given. The new thread is another than the caller, has seen what the caller has, and has its first
+/// share.
 ///
 /// Always succeeds: all that the new thread needs was allocated when the package was opened. In a
 /// traced package it may wait for a moment, for the turn to number the event.
@@ -40,9 +40,11 @@ pub fn fork_thread<U: Uses, R: Wait>(
 ) -> Result<Thread<U>, Unborn<U>>
     requires rest { AtRest p.now me.old }
     requires of { child.table_id ≡ p.now.table_id }
+    requires named { child.number < p.now.layout.threads }
     ensures forks { is_ok result ≡ true }
     ensures rest { AtRest p.now me.new }
     ensures same { IsSame me.old me.new }
+    ensures apart { child.number ≢ me.old.number }
     ensures event { Adds [] (fork_event me.old.number child.number) me.old me.new }
     ensures held { me.new.held ≡ me.old.held }
     ensures share { me.new.share ≡ me.old.share }
@@ -89,6 +91,9 @@ pub fn end_thread<U: Uses, R: Wait>(rt: &R, p: &Package<U>, mut me: Thread<U>) -
     begin_event(rt, p, &mut me);
     end_life(p, &mut me);
     end_event(p, &mut me, Some(e));
+    // After the word was stored: a thread that wakes up reads it, and would park again if it weren't set yet. And after the pen was given
+    // back, which a joiner needs to read the word.
+    unpark_all(p);
     Ended::of(me)
 }
 
@@ -115,8 +120,7 @@ pub fn join_thread<U: Uses, R: Wait>(rt: &R, p: &Package<U>, me: &mut Thread<U>,
         if try_join(rt, p, me, who) {
             return;
         }
-        // Without the pen, which the other thread may need to end. That end first stores the word
-        // and then unparks all, so none parks for ever.
+        // Without the pen, which the other's end may need. An end stores the word first, gives the pen back, and unparks all then.
         park_for_end(rt, me);
     }
     unreachable!()

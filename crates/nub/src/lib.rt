@@ -8,6 +8,7 @@
 #![tactic(auto)]
 
 mod closed;
+mod coming_back;
 mod forking;
 pub mod laws;
 mod patience;
@@ -20,6 +21,7 @@ mod whole;
 mod withdrawal;
 
 pub use closed::Closed;
+pub use coming_back::are_all_back;
 pub use forking::{end_thread, fork_thread, join_thread};
 pub use larch_actions::{Action, CondId, Event, Layout, MutexId, SemId, ThreadId, Version};
 pub use nub_rule::{Change, Ended, NoChange, Package, Thread, Unborn, Uses};

@@ -1,5 +1,6 @@
 //! Entering and leaving the Nub, under a spin word.
 ghost use Rattle.std.specs.Prelude.{◌≡◌, ◌<◌, [], length, Some, None, true};
+ghost use Rattle.larch_actions.specs.declared.event.Life.TheVariants.{Live};
 ghost use Rattle.larch_actions.specs.Sets.{mem, without};
 ghost use Rattle.nub_rule.specs.Items.{Small};
 ghost use Rattle.nub_rule.specs.Objects.{object_of, HasObject};
@@ -18,6 +19,7 @@ use std::sync::Wait;
 pub fn enter<U: Uses, R: Wait>(rt: &R, p: &Package<U>, me: &mut Thread<U>, at: Object, why: Why)
     requires of { me.old.table_id ≡ p.now.table_id }
     requires named { HasObject p.now.layout at }
+    requires live { me.old.life ≡ Live }
     requires outside { me.old.spin ≡ None }
     requires reason { HasReason at me.old why }
     ensures inside { me.new ≡ record me.old {

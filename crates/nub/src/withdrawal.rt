@@ -1,5 +1,6 @@
 //! Leaving a queue because of an alert.
 ghost use Rattle.std.specs.Prelude.{◌≡◌, [], None, true, false};
+ghost use Rattle.larch_actions.specs.declared.event.Life.TheVariants.{Live};
 ghost use Rattle.larch_actions.specs.Sets.{without};
 ghost use Rattle.nub_rule.specs.Known.{StandsAs};
 ghost use Rattle.nub_rule.specs.Objects.{object_of, HasObject, IsGate, IsCond};
@@ -22,6 +23,7 @@ use std::sync::Wait;
 pub fn withdraw<U: Uses, R: Wait>(rt: &R, p: &Package<U>, me: &mut Thread<U>, at: Object) -> bool
     requires of { me.old.table_id ≡ p.now.table_id }
     requires named { HasObject p.now.layout at }
+    requires live { me.old.life ≡ Live }
     requires outside { (me.old.spin ≡ None) × (me.old.queue ≡ []) × (me.old.owed ≡ []) × (me.old.left ≡ []) }
     requires looked { me.old.cleared ≡ [] }
     requires alerted { StandsAs (λ s. (s.at ≡ object_of at) × IsAlerted s.stage) me.old × (me.old.alerted ≡ true) }

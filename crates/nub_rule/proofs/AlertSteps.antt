@@ -30,6 +30,7 @@ use Rattle.nub_rule.specs.Plays.{Becomes, Grows, told, with_part, alert_event, a
 use Rattle.nub_rule.specs.Rule.{IsKept}
 use Rattle.nub_rule.proofs.Apart.{thread-of}
 use Rattle.nub_rule.proofs.Each.{at_within, each-set, put-here, put-else}
+use Rattle.nub_rule.proofs.Idle.{idle-alerted, idle-live, idle-same, idle-spun}
 use Rattle.nub_rule.proofs.Members.{member_steps}
 use Rattle.nub_rule.proofs.Frames.{lives-frame, lives-stay, other, ready-stay}
 use Rattle.nub_rule.proofs.Lines.{some_none, distinct-behind, less-without, lines-leave, lines-same, lines-stage, mem-behind, without-absent, without-append}
@@ -142,6 +143,7 @@ module _ {T H W : Type 0} (l : Layout) (traced : Bool) (w : W) (begin : W → �
       → Allows (IsKept l traced w begin holds) slots id me (alert_at t) (λ x. bit_or x 1) (or_alert_tells (step slots (alert_at t) 1 0 none) me)
   or_alert_at slots id t me low named kind out may = let v = me.0 in let n = v.number in let p = v.part in let i = alert_at t in let e = alert_event n t in
       member_steps l traced w begin holds slots id i (λ x. bit_or x 1) v me.1 (λ r q ds. Learns e n p (λ z. record (told p z e) { alerted = p.alerted }) q × (ds ≡ me.1)) (or_alert_tells (step slots i 1 0 none) me) kind
+      (λ r q ds u. idle-live p q v.child may.0 (ap (λ (z : Part T H). z.life) u.0.2))
       (λ r q ds world u k few is. let same : t ≡ k = thread-of t k low few (omega arith) in subst (λ (k : ℕ). (between : List Event) × Grows n p between (alert_event n k) × Becomes me (told p (p.seen ++ between) (alert_event n k)) (with_part v q, ds)) same
       (u.0.0, u.0.1, λ j. (with_part v (u.0.2 j), u.1 j)))
       (λ words homes all c at small.
@@ -161,6 +163,7 @@ module _ {T H W : Type 0} (l : Layout) (traced : Bool) (w : W) (begin : W → �
   swap_alert_at slots id me low kind out may = let v = me.0 in let n = v.number in let p = v.part in let i = alert_at n in
       member_steps l traced w begin holds slots id i (λ _. 0) v me.1
       (λ r q ds. ((r ≡ 0) ⊎ (r ≡ 1)) × (p.alerted ≡ true → r ≡ 1) × Learns (test_alert_event n (eqb r 1)) n p (λ z. record (told p z (test_alert_event n (eqb r 1))) { alerted = false }) q × (ds ≡ me.1)) (swap_alert_tells (step slots i 0 0 none) me) kind
+      (λ r q ds u. idle-live p q v.child may.0 (ap (λ (z : Part T H). z.life) u.2.2))
       (λ r q ds world u. (u.0, u.1, u.2.0, u.2.1, λ j. (with_part v (u.2.2 j), u.3 j)))
       (λ words homes all c at small.
       let r : ℕ = get_or words i 0 in
@@ -180,6 +183,7 @@ module _ {T H W : Type 0} (l : Layout) (traced : Bool) (w : W) (begin : W → �
   swap_alert_in_p_at slots id s me named low kind out seen may = let v = me.0 in let n = v.number in let p = v.part in let i = alert_at n in let e = alert_p_raise_event n s in
       member_steps l traced w begin holds slots id i (λ x. bit_and x (2 * s)) v me.1
       (λ r q ds. (r ≡ 1) × Learns e n p (λ z. record (told p z e) { alerted = false }) q × (ds ≡ me.1)) (swap_alert_in_p_tells (step slots i (2 * s) 0 none) me) kind
+      (λ r q ds u. idle-live p q v.child may.0 (ap (λ (z : Part T H). z.life) u.1.2))
       (λ r q ds world u k is. let same : s ≡ k = omega arith in subst (λ (k : ℕ). (r ≡ 1) × (between : List Event) × Grows n p between (alert_p_raise_event n k) × Becomes me (record (told p (p.seen ++ between) (alert_p_raise_event n k)) { alerted = false }) (with_part v q, ds)) same
       (u.0, u.1.0, u.1.1, λ j. (with_part v (u.1.2 j), u.2 j)))
       (λ words homes all c at small.
@@ -213,6 +217,7 @@ module _ {T H W : Type 0} (l : Layout) (traced : Bool) (w : W) (begin : W → �
   read_alert_at : (slots id : ℕ) (me : Me (Slot T) (View T H W)) → me.0.number < most_threads → me.0.kind ≡ Member → Allows (IsKept l traced w begin holds) slots id me (alert_at me.0.number) (λ x. x) (read_alert_tells (step slots (alert_at me.0.number) 0 0 none) me)
   read_alert_at slots id me low kind = let v = me.0 in let n = v.number in let p = v.part in let i = alert_at n in let q : Part T H = record p { alerted = true; stand = alerted_stand p.stand } in
       member_steps l traced w begin holds slots id i (λ x. x) v me.1 (λ r x ds. (p.alerted ≡ true → r ≡ 1) × (((r ≡ 0) × (x ≡ p)) ⊎ ((r ≡ 1) × (x ≡ q))) × (ds ≡ me.1)) (read_alert_tells (step slots i 0 0 none) me) kind
+      (λ r x ds t. ⊎_elim (λ (u : (r ≡ 0) × (x ≡ p)). idle-same p x v.child u.1) (λ (u : (r ≡ 1) × (x ≡ q)). idle-alerted p x v.child u.1) t.1)
       (λ r x ds world t.
       let told_by : (r ≡ 0 → (with_part v x, ds) ≡ me) × (r ≢ 0 → (r ≡ 1) × Becomes me q (with_part v x, ds)) = ⊎_elim
       (λ (u : (r ≡ 0) × (x ≡ p)). ((λ _. λ j. (with_part v (u.1 j), t.2 j)), λ miss. absurd (miss u.0)))
@@ -232,6 +237,7 @@ module _ {T H W : Type 0} (l : Layout) (traced : Bool) (w : W) (begin : W → �
       let q : Part T H = record p { queue = ys; left = less n p.left; stand = None; turns = left_turns p.stand p.turns } in
       subst (λ (z : ℕ). Allows (IsKept l traced w begin holds) slots id me (length_at o) (λ _. z) (λ _. leave_sem_queue_tells (step slots (length_at o) z 0 none) me z)) (sym long)
       (member_steps l traced w begin holds slots id (length_at o) (λ _. length ys) v me.1 (λ x y ds. (y ≡ q) × (ds ≡ me.1)) (λ _. leave_sem_queue_tells (step slots (length_at o) (length ys) 0 none) me (length ys)) kind
+      (λ x y ds t. idle-spun p y v.child o here (ap (λ (z : Part T H). z.life) t.0))
       (λ x y ds world t. (λ i. (with_part v (t.0 i), t.1 i)))
       (λ words homes all c at small.
       let mine = (c.spins.spinning n p at o).0 here in

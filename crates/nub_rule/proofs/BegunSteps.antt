@@ -14,6 +14,7 @@ use Rattle.larch_actions.specs.Layout.{IsNamed}
 use Rattle.larch_actions.specs.Sets.{mem, in_set, set_of}
 use Rattle.larch_actions.proofs.Sets.{in_set-of}
 use Rattle.atomic_table.specs.Table.{Me, step, Allows, keeps}
+use Rattle.larch_actions.specs.declared.event.Life.TheVariants.{Live}
 use Rattle.nub_rule.specs.declared.rule.Slot.{Slot}
 use Rattle.nub_rule.specs.declared.view.Part.{Part}
 use Rattle.nub_rule.specs.declared.view.Wait.{Wait}
@@ -26,6 +27,7 @@ use Rattle.nub_rule.specs.Places.{life_at, bit_at, count_at, alert_at, waits_at,
 use Rattle.nub_rule.specs.Plays.{Becomes, Grows, told, with_part, event, signal_action, broadcast_action, raise_waits_tells, lower_waits_tells, read_waits_tells}
 use Rattle.nub_rule.specs.Rule.{IsKept}
 use Rattle.nub_rule.proofs.Each.{each-set, at_below, put-at, put-else}
+use Rattle.nub_rule.proofs.Idle.{idle-live, idle-raised}
 use Rattle.nub_rule.proofs.Members.{member_steps}
 use Rattle.nub_rule.proofs.Frames.{lives-frame, lived-frame, lives-stay, SameCounts, other, bits-stay, spins-stay, ready-stay, shown-stay, pen-stay, spins-frame, lines-frame, shows-frame, pens-frame, holders-frame, pendings-frame, semaphores-frame, alerts-frame, alert-seen-frame, alert-seen-stays}
 use Rattle.nub_rule.proofs.Lines.{some_none, not_true, both_ways, mem-behind, stand_some}
@@ -83,10 +85,11 @@ module _ {T H W : Type 0} (l : Layout) (traced : Bool) (w : W) (begin : W → �
       (owes-frame k.queue words words' all n p q at (λ j lo. other words i (bit_at j) x (λ z. omega arith)) refl refl refl k.owes)
       begun
 
-  raise_waits_at : (slots id c : ℕ) (me : Me (Slot T) (View T H W)) → c < 64 → me.0.kind ≡ Member → me.0.part.raised ≡ None
+  raise_waits_at : (slots id c : ℕ) (me : Me (Slot T) (View T H W)) → c < 64 → me.0.kind ≡ Member → me.0.part.life ≡ Live → me.0.part.raised ≡ None
       → Allows (IsKept l traced w begin holds) slots id me (waits_at (cond_object c)) (λ x. (x + 1) % 2 ^ 64) (raise_waits_tells (step slots (waits_at (cond_object c)) 1 0 none) me)
-  raise_waits_at slots id c me low kind out = let v = me.0 in let n = v.number in let p = v.part in let i : ℕ = waits_at (cond_object c) in let q : Part T H = record p { raised = Some c } in
+  raise_waits_at slots id c me low kind live out = let v = me.0 in let n = v.number in let p = v.part in let i : ℕ = waits_at (cond_object c) in let q : Part T H = record p { raised = Some c } in
       member_steps l traced w begin holds slots id i (λ x. (x + 1) % 2 ^ 64) v me.1 (λ r s ds. (s ≡ q) × (ds ≡ me.1)) (raise_waits_tells (step slots i 1 0 none) me) kind
+      (λ r s ds t. idle-live p s v.child live (ap (λ (z : Part T H). z.life) t.0))
       (λ r s ds world t d is. let e : c ≡ d = omega arith in (λ j. (with_part v (t.0 j), t.1 j)) ∙ (λ j. (with_part v (record p { raised = Some (e j) }), me.1)))
       (λ words homes all k at small.
       let r : ℕ = get_or words i 0 in
@@ -104,14 +107,15 @@ module _ {T H W : Type 0} (l : Layout) (traced : Bool) (w : W) (begin : W → �
       ))
 
   -- the same at a word that is this place
-  pub raise_waits_keeps : (slots id c : ℕ) (me : Me (Slot T) (View T H W)) (i : ℕ) → i ≡ waits_at (cond_object c) → c < 64 → me.0.kind ≡ Member → me.0.part.raised ≡ None
+  pub raise_waits_keeps : (slots id c : ℕ) (me : Me (Slot T) (View T H W)) (i : ℕ) → i ≡ waits_at (cond_object c) → c < 64 → me.0.kind ≡ Member → me.0.part.life ≡ Live → me.0.part.raised ≡ None
       → Allows (IsKept l traced w begin holds) slots id me i (λ x. (x + 1) % 2 ^ 64) (raise_waits_tells (step slots i 1 0 none) me)
-  raise_waits_keeps slots id c me i word low kind out = subst (λ (i : ℕ). Allows (IsKept l traced w begin holds) slots id me i (λ x. (x + 1) % 2 ^ 64) (raise_waits_tells (step slots i 1 0 none) me)) (sym word) (raise_waits_at slots id c me low kind out)
+  raise_waits_keeps slots id c me i word low kind live out = subst (λ (i : ℕ). Allows (IsKept l traced w begin holds) slots id me i (λ x. (x + 1) % 2 ^ 64) (raise_waits_tells (step slots i 1 0 none) me)) (sym word) (raise_waits_at slots id c me low kind live out)
 
   lower_waits_at : (slots id c : ℕ) (me : Me (Slot T) (View T H W)) → c < 64 → me.0.kind ≡ Member → me.0.part.raised ≡ Some c → ((x : Wait) → me.0.part.wait ≡ Some x → x.member ≡ None) → me.0.part.stand ≡ None
       → Allows (IsKept l traced w begin holds) slots id me (waits_at (cond_object c)) (λ x. (x + (2 ^ 64 - 1)) % 2 ^ 64) (lower_waits_tells (step slots (waits_at (cond_object c)) 1 0 none) me)
   lower_waits_at slots id c me low kind has out nowhere = let v = me.0 in let n = v.number in let p = v.part in let i : ℕ = waits_at (cond_object c) in let q : Part T H = record p { raised = None } in
       member_steps l traced w begin holds slots id i (λ x. (x + (2 ^ 64 - 1)) % 2 ^ 64) v me.1 (λ r s ds. (s ≡ q) × (ds ≡ me.1)) (lower_waits_tells (step slots i 1 0 none) me) kind
+      (λ r s ds t. idle-raised p s v.child c has (ap (λ (z : Part T H). z.life) t.0))
       (λ r s ds world t j. (with_part v (t.0 j), t.1 j))
       (λ words homes all k at small.
       let r : ℕ = get_or words i 0 in
@@ -156,6 +160,7 @@ module _ {T H W : Type 0} (l : Layout) (traced : Bool) (w : W) (begin : W → �
       subst (λ (i : ℕ). Allows (IsKept l traced w begin holds) slots id me i (λ x. x) (read_waits_tells action (step slots i 0 0 none) me)) (sym word)
       (member_steps l traced w begin holds slots id o (λ x. x) v me.1
       (λ r q ds. ((r ≡ 0) × Learns e n p (λ z. told p z e) q × (ds ≡ me.1)) ⊎ ((r ≢ 0) × (q ≡ record p { calling = Some c }) × (ds ≡ me.1))) (read_waits_tells action (step slots o 0 0 none) me) kind
+      (λ r q ds t. idle-live p q v.child may.0 (⊎_elim (λ (u : (r ≡ 0) × Learns e n p (λ z. told p z e) q × (ds ≡ me.1)). ap (λ (z : Part T H). z.life) u.1.2) (λ (u : (r ≢ 0) × (q ≡ record p { calling = Some c }) × (ds ≡ me.1)). ap (λ (z : Part T H). z.life) u.1) t))
       (λ r q ds world t d is. let same : c ≡ d = omega arith in
       subst (λ (d : ℕ). (r ≡ 0 → (between : List Event) × Grows n p between (event n (action d [])) × Becomes me (told p (p.seen ++ between) (event n (action d []))) (with_part v q, ds)) × (r ≢ 0 → Becomes me (record p { calling = Some d }) (with_part v q, ds))) same
       (⊎_elim

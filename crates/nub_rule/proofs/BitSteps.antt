@@ -32,6 +32,7 @@ use Rattle.nub_rule.specs.Places.{bit_at, value_at, queue_at, cond_object}
 use Rattle.nub_rule.specs.Plays.{with_part, told, Grows, event, acquire_event, release_event, taken_action, MayTake, try_bit_tells, clear_bit_tells, Won, Freed, Becomes, MayFree}
 use Rattle.nub_rule.specs.Rule.{FitsAs, IsKept}
 use Rattle.nub_rule.proofs.Each.{at_within, at_below, put-here, put-else}
+use Rattle.nub_rule.proofs.Idle.{idle-live}
 use Rattle.nub_rule.proofs.Members.{Steps, member_steps}
 use Rattle.nub_rule.proofs.Runs.{run-of, leads-snoc}
 use Rattle.nub_rule.proofs.Frames.{lives-stay, lives-frame, other, sizes-frame, told-event, spins-frame, lines-frame, ready-stay, spins-stay, shown-stay, pen-stay, alert-seen-stays, alert-seen-frame}
@@ -240,6 +241,7 @@ module _ {T H W : Type 0} (l : Layout) (traced : Bool) (w : W) (begin : W → �
         → Allows (IsKept l traced w begin holds) slots id me (bit_at m) (λ x. either (eqb x 0) 1 x) (try_bit_tells fits (step slots (bit_at m) 0 1 none) me)
     try_bit_at slots id m e me inside kind apart may pen = let v = me.0 in let n = v.number in let p = v.part in let ev = event n (taken_action m p.wait) in member_steps l traced w begin holds slots id (bit_at m) (λ x. either (eqb x 0) 1 x) v me.1
         (λ r q ds. ((r ≡ 0) × Wins fits ev m n p me.1 q ds) ⊎ ((r ≢ 0) × (q ≡ record p { failed = m ∷ p.failed; turns = without m p.turns }) × (ds ≡ me.1))) (try_bit_tells fits (step slots (bit_at m) 0 1 none) me) kind
+        (λ r q ds t. idle-live p q v.child pen.0 (⊎_elim (λ (u : (r ≡ 0) × Wins fits ev m n p me.1 q ds). ap (λ (z : Part T H). z.life) u.1.6) (λ (u : (r ≢ 0) × (q ≡ record p { failed = m ∷ p.failed; turns = without m p.turns }) × (ds ≡ me.1)). ap (λ (z : Part T H). z.life) u.1) t))
         (λ r q ds world t k is. let same : m ≡ k = omega arith in subst (λ (k : ℕ). (r ≡ 0 → Won fits k me (with_part v q, ds)) × (r ≢ 0 → Becomes me (record p { failed = k ∷ p.failed; turns = without k p.turns }) (with_part v q, ds))) same (⊎_elim
         (λ (u : (r ≡ 0) × Wins fits ev m n p me.1 q ds). (
           (λ _. let x = u.1 in (x.0, x.1, (λ w' s is has. let e : Some w ≡ Some w' = sym world ∙ is in let f : w ≡ w' = cc in subst (λ (z : W). fits z m x.0 n s) f (x.2 s has)), x.3, x.4, x.5, λ i. (with_part v (x.6 i), x.7 i))),
@@ -336,6 +338,7 @@ module _ {T H W : Type 0} (l : Layout) (traced : Bool) (w : W) (begin : W → �
         let world : v.world ≡ Some w = (subst (FitsAs l.version l.threads r.given w begin r.all r.seat_of id v) kind (r.fits id v at)).world in
         let next = λ (s : H). after w m n x y s in
         member_steps l traced w begin holds slots id (bit_at m) (λ _. 0) v me.1 (λ r q ds. (r ≡ 1) × Frees next m n p me.1 q ds) (clear_bit_tells after (step slots (bit_at m) 0 0 none) me) kind
+        (λ r q ds t. idle-live p q v.child pen.0 (ap (λ (z : Part T H). z.life) t.1.4))
         (λ r q ds world' t' k is. let t = t'.1 in let same : m ≡ k = omega arith in subst (λ (k : ℕ). Freed after k me r (with_part v q, ds)) same (
           t'.0,
           t.2,

@@ -22,6 +22,7 @@ use Rattle.nub_rule.specs.Places.{count_at, length_at, cond_object}
 use Rattle.nub_rule.specs.Plays.{with_part, behind, front, less, unread, recounted, compare_count_tells, push_cond_tells, pop_cond_tells, leave_cond_queue_tells}
 use Rattle.nub_rule.specs.Rule.{IsKept}
 use Rattle.nub_rule.proofs.Each.{each-set, put-here, put-else}
+use Rattle.nub_rule.proofs.Idle.{idle-spun}
 use Rattle.nub_rule.proofs.Members.{member_steps}
 use Rattle.nub_rule.proofs.Frames.{lived-frame, SameShown, ready-stay, spins-frame, lines-frame, semaphores-frame, alerts-frame, pens-frame, alert-seen-frame}
 use Rattle.nub_rule.proofs.Lines.{mem-behind, distinct-behind, without-append, without-absent, less-without, lines-push, lines-leave, lines-same}
@@ -68,6 +69,7 @@ module _ {T H W : Type 0} (l : Layout) (traced : Bool) (w : W) (begin : W → �
       → Allows (IsKept l traced w begin holds) slots id me i (λ x. x) (compare_count_tells (step slots i 0 0 none) me)
   compare_count_at slots id c j x me i word low kind here before on stood = let v = me.0 in let n = v.number in let p = v.part in let q : Part T H = record p { wait = unread p.wait } in
       member_steps l traced w begin holds slots id i (λ x. x) v me.1 (λ r s ds. (r ≡ p.count) × (r ≡ j → s ≡ p) × (r ≢ j → s ≡ q) × (ds ≡ me.1)) (compare_count_tells (step slots i 0 0 none) me) kind
+      (λ r s ds t. idle-spun p s v.child (cond_object c) here (dite (ℕ_discrete r j) (λ hit. ap (λ (z : Part T H). z.life) (t.1 hit)) (λ miss. ap (λ (z : Part T H). z.life) (t.2 miss))))
       (λ r s ds world t. (
         t.0,
         λ y k is stood'.
@@ -108,6 +110,7 @@ module _ {T H W : Type 0} (l : Layout) (traced : Bool) (w : W) (begin : W → �
       let q : Part T H = record p { queue = ys; left = p.left ++ n ∷ []; stand = Some st; wait = unread p.wait } in
       subst (λ (z : ℕ). Allows (IsKept l traced w begin holds) slots id me (length_at o) (λ _. z) (λ _. push_cond_tells (step slots (length_at o) z 0 none) me z)) (sym long)
       (member_steps l traced w begin holds slots id (length_at o) (λ _. length ys) v me.1 (λ x s ds. (s ≡ q) × (ds ≡ me.1)) (λ _. push_cond_tells (step slots (length_at o) (length ys) 0 none) me (length ys)) kind
+      (λ x s ds t. idle-spun p s v.child o here (ap (λ (z : Part T H). z.life) t.0))
       (λ x s ds world t k is. let e : o ≡ k = omega arith in (λ i. (with_part v (t.0 i), t.1 i)) ∙ (λ i. (with_part v (record p { queue = ys; left = p.left ++ n ∷ []; stand = Some record { at = e i; stage = Tested }; wait = unread p.wait }), me.1)))
       (λ words homes all k at small.
       let mine = (k.spins.spinning n p at o).0 here in
@@ -143,6 +146,7 @@ module _ {T H W : Type 0} (l : Layout) (traced : Bool) (w : W) (begin : W → �
       let q : Part T H = record p { queue = ys; owed = p.owed ++ front p.queue } in
       subst (λ (z : ℕ). Allows (IsKept l traced w begin holds) slots id me (length_at o) (λ _. z) (λ _. pop_cond_tells (step slots (length_at o) z 0 none) me z)) (sym long)
       (member_steps l traced w begin holds slots id (length_at o) (λ _. length ys) v me.1 (λ x s ds. (s ≡ q) × (ds ≡ me.1)) (λ _. pop_cond_tells (step slots (length_at o) (length ys) 0 none) me (length ys)) kind
+      (λ x s ds t. idle-spun p s v.child o here (ap (λ (z : Part T H). z.life) t.0))
       (λ x s ds world t i. (with_part v (t.0 i), t.1 i))
       (λ words homes all k at small.
       let mine = (k.spins.spinning n p at o).0 here in
@@ -177,6 +181,7 @@ module _ {T H W : Type 0} (l : Layout) (traced : Bool) (w : W) (begin : W → �
       let q : Part T H = record p { queue = ys; left = less n p.left; stand = None; wait = recounted p.count p.wait } in
       subst (λ (z : ℕ). Allows (IsKept l traced w begin holds) slots id me (length_at o) (λ _. z) (λ _. leave_cond_queue_tells (step slots (length_at o) z 0 none) me z)) (sym long)
       (member_steps l traced w begin holds slots id (length_at o) (λ _. length ys) v me.1 (λ x s ds. (s ≡ q) × (ds ≡ me.1)) (λ _. leave_cond_queue_tells (step slots (length_at o) (length ys) 0 none) me (length ys)) kind
+      (λ x s ds t. idle-spun p s v.child o here (ap (λ (z : Part T H). z.life) t.0))
       (λ x s ds world t i. (with_part v (t.0 i), t.1 i))
       (λ words homes all k at small.
       let mine = (k.spins.spinning n p at o).0 here in

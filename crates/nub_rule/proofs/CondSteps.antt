@@ -26,6 +26,7 @@ use Rattle.nub_rule.specs.Places.{life_at, bit_at, count_at, alert_at, value_at,
 use Rattle.nub_rule.specs.Plays.{Becomes, Grows, told, with_part, behind, event, begun_wait, enqueue_event, signal_action, broadcast_action, load_count_tells, know_count_tells, advance_tells}
 use Rattle.nub_rule.specs.Rule.{IsKept}
 use Rattle.nub_rule.proofs.Each.{each-set, put-here, put-else}
+use Rattle.nub_rule.proofs.Idle.{idle-live, idle-same}
 use Rattle.nub_rule.proofs.Members.{Steps, member_steps}
 use Rattle.nub_rule.proofs.Frames.{lives-frame, lives-stay, lived-frame, SameShown, other, pendings-frame, holders-frame, semaphores-frame, alerts-frame, alert-seen-stays, alert-seen-frame}
 use Rattle.nub_rule.proofs.Lines.{distinct-behind, mem-behind}
@@ -139,6 +140,7 @@ module _ {T H W : Type 0} (l : Layout) (traced : Bool) (w : W) (begin : W → �
       → Allows (IsKept l traced w begin holds) slots id me (count_at (cond_object c)) (λ x. x) (load_count_tells alertable (step slots (count_at (cond_object c)) 0 0 none) me)
   load_count_at alertable slots id m c s me x low named kind first got out even raised may = let v = me.0 in let n = v.number in let p = v.part in let i : ℕ = count_at (cond_object c) in
       member_steps l traced w begin holds slots id i (λ x. x) v me.1 (λ r q ds. Learns (enqueue_event alertable n m c) n p (after_load alertable n m c r p) q × (ds ≡ me.1)) (load_count_tells alertable (step slots i 0 0 none) me) kind
+      (λ r q ds t. idle-live p q v.child may.0 (ap (λ (z : Part T H). z.life) t.0.2))
       (λ r q ds world t m' c' s' is first'.
       let em : m ≡ m' = let z = key_of me.1 (value_at m) (value_at m') s s' first first' in omega arith in
       let ec : c ≡ c' = omega arith in
@@ -154,6 +156,7 @@ module _ {T H W : Type 0} (l : Layout) (traced : Bool) (w : W) (begin : W → �
   know_count_at : (slots id c : ℕ) (me : Me (Slot T) (View T H W)) → c < 64 → me.0.kind ≡ Member → me.0.part.spin ≡ Some (cond_object c) → Allows (IsKept l traced w begin holds) slots id me (count_at (cond_object c)) (λ x. x) (know_count_tells (step slots (count_at (cond_object c)) 0 0 none) me)
   know_count_at slots id c me low kind here = let v = me.0 in let n = v.number in let p = v.part in let i : ℕ = count_at (cond_object c) in
       member_steps l traced w begin holds slots id i (λ x. x) v me.1 (λ r q ds. (r ≡ p.count) × (q ≡ p) × (ds ≡ me.1)) (know_count_tells (step slots i 0 0 none) me) kind
+      (λ r q ds t. idle-same p q v.child t.1)
       (λ r q ds world t. (t.0, λ j. (with_part v (t.1 j), t.2 j)))
       (λ words homes all k at small. let own = ((k.spins.spinning n p at (cond_object c)).0 here).0 in let s = k.shows.conditions in
       (p, keeps, tt, idle l traced w holds words homes all i n p at k, (s.counted c low ∙ sym ((s.knows n p at).inside c own).1, refl, refl)))
@@ -204,6 +207,7 @@ module _ {T H W : Type 0} (l : Layout) (traced : Bool) (w : W) (begin : W → �
       let At : ℕ → Part T H → List (ℕ × Slot T) → Type 0 = λ r q ds. (r ≡ p.count) × Distinct p.queue × Learns (event n (action c ys)) n p (λ z. record (told p z (event n (action c ys))) { left = ys; count = p.count + 1; calling = None }) q × (ds ≡ me.1) in
       subst (λ (i : ℕ). Allows (IsKept l traced w begin holds) slots id me i (λ x. (x + 1) % 2 ^ 64) (advance_tells leave action (step slots i 1 0 none) me)) (sym word)
       (member_steps l traced w begin holds slots id o (λ x. (x + 1) % 2 ^ 64) v me.1 At (advance_tells leave action (step slots o 1 0 none) me) kind
+      (λ r q ds t. idle-live p q v.child may.0 (ap (λ (z : Part T H). z.life) t.2.2))
       (λ r q ds world t c' is'. let ec : c ≡ c' = omega arith in
       subst (λ (z : ℕ). (r ≡ p.count) × Distinct p.queue × (between : List Event) × Grows n p between (event n (action z ys)) × Becomes me (record (told p (p.seen ++ between) (event n (action z ys))) { left = ys; count = p.count + 1; calling = None }) (with_part v q, ds)) ec
       (t.0, t.1, t.2.0, t.2.1, λ j. (with_part v (t.2.2 j), t.3 j)))

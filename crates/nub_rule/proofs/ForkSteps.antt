@@ -27,6 +27,7 @@ use Rattle.nub_rule.specs.Rule.{ChildFits, FitsAs, SeatFits, IsKept, IsOfChild}
 use Rattle.nub_rule.proofs.Apart.{thread-of}
 use Rattle.nub_rule.proofs.Each.{at_within, each-set}
 use Rattle.nub_rule.proofs.Runs.{leads-snoc, run-of}
+use Rattle.nub_rule.proofs.Idle.{idle-live}
 use Rattle.nub_rule.proofs.Members.{others_fit, placed-set}
 use Rattle.nub_rule.proofs.Frames.{other, alert-seen-frame, alert-seen-stays, bits-stay, lines-frame, lives-frame, owned-frame, pen-stay, pens-frame, ready-stay, shown-stay, shows-frame, sizes-frame, spins-frame, spins-stay, told-event}
 use Rattle.nub_rule.proofs.Beginning.{waits-stay, begun-same}
@@ -144,7 +145,7 @@ module _ {T H W : Type 0} (l : Layout) (traced : Bool) (w : W) (begin : W → �
           seated = subst (λ (z : ℕ). 0 < z) (sym (length-set s.views id v')) r.seated;
           fits = λ j u e. ⊎_elim
               (λ (h : (j ≡ id) × (v' ≡ u)). subst (λ (z : ℕ × View T H W). SeatFits l.version l.threads r.given w begin (set all' t new) r.seat_of z.0 z.1) (λ k. (sym h.0 k, h.1 k))
-              (subst (FitsAs l.version l.threads r.given w begin (set all' t new) r.seat_of id v') (sym kind) record { world = own.world; later = own.later; given_out = own.given_out; sits = own.sits; own = now; child = (right.0, right.1, right.2, forked) }))
+              (subst (FitsAs l.version l.threads r.given w begin (set all' t new) r.seat_of id v') (sym kind) record { world = own.world; later = own.later; given_out = own.given_out; sits = own.sits; own = now; child = (right.0, right.1, right.2, forked); idle = idle-live p q (Forked t log) may.0 refl (λ dead. absurd (dead may.0)) }))
               (λ (h : (j ≢ id) × (get_elem? s.views j ≡ some u)). others_fit l.version l.threads r.given w begin all' r.seat_of t new id j own.later right.0 h.0 u u.kind
               (others_fit l.version l.threads r.given w begin r.all r.seat_of n q id j own.later own.sits h.0 u u.kind (r.fits j u h.1)))
               (at_set s.views id j v' u e);
@@ -152,8 +153,8 @@ module _ {T H W : Type 0} (l : Layout) (traced : Bool) (w : W) (begin : W → �
           core = f.core;
         },
         λ k few is. let same : t ≡ k = thread-of t k low few (omega arith) in
-            subst (λ (k : ℕ). (between : List Event) × Grows n p between (fork_event n k)
-            × ((let y : Me (Slot T) (View T H W) = (v', me.1) in y) ≡ (record v { part = told p (p.seen ++ between) (fork_event n k); child = Forked k ((p.seen ++ between) ++ fork_event n k ∷ []) }, me.1))) same (f.between, f.grows, refl),
+            subst (λ (k : ℕ). (k ≢ n) × (between : List Event) × Grows n p between (fork_event n k)
+            × ((let y : Me (Slot T) (View T H W) = (v', me.1) in y) ≡ (record v { part = told p (p.seen ++ between) (fork_event n k); child = Forked k ((p.seen ++ between) ++ fork_event n k ∷ []) }, me.1))) same (right.1, f.between, f.grows, refl),
       )
 
   -- the same at a word that is this place

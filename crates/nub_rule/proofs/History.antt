@@ -4,14 +4,13 @@ use mathlib.Core.Logic.{dite}
 use mathlib.Core.Option.{some}
 use native.Mathlib.Decide.{ℕ_discrete}
 use lib.ListN.{get_elem?}
-use Rattle.atomic_table.proofs.Lists.{set_else, set_here}
 use Rattle.larch_actions.specs.declared.event.Event.{Event}
 use Rattle.larch_actions.specs.declared.event.Version.{Version}
 use Rattle.larch_actions.specs.declared.event.Layout.{Layout}
 use Rattle.larch_actions.specs.Actions.{Spec, Leads, IsRun, StartsWith, at_first, by_thread}
 use Rattle.nub_rule.specs.declared.view.Part.{Part}
 use Rattle.nub_rule.specs.Items.{Each}
-use Rattle.nub_rule.specs.PackageRule.{History}
+use Rattle.nub_rule.specs.PackageRule.{History, IsStepOf}
 use Rattle.nub_rule.proofs.Each.{at_below, at_within, same_at}
 
 -- a list leads from a state to one state
@@ -69,25 +68,25 @@ module _ {T H : Type 0} where
   pub one-log : (l : Layout) (log log' : List Event) (views : List (Part T H)) → History l log views → History l log' views → log' ≡ log
   one-log l log log' views h h' = same-lists log log' (begun-by l log' log views views h.begins h') (begun-by l log log' views views h'.begins h)
 
-  pub step-log : (l : Layout) (log log' : List Event) (views : List (Part T H)) (n : ℕ) (p q : Part T H) (es : List Event) → get_elem? views n ≡ some p → StartsWith q.seen p.seen → q.mine ≡ p.mine ++ es
-      → History l log views → History l log' (set views n q) → log' ≡ log ++ es
-  step-log l log log' views n p q es at more adds h h' =
-      let here = set_here views n q (at_within views n p at) in
-      let grown : StartsWith log' log = begun-by l log log' views (set views n q) (λ k r at'. dite (ℕ_discrete k n)
-      (λ e. let same : p ≡ r = same_at views n p r at (ap (get_elem? views) (sym e) ∙ at') in let own = h'.begins n q here in
-      (more.0 ++ own.0, own.1 ∙ (ap (λ (l : List Event). l ++ own.0) (more.1 ∙ ap (λ (z : Part T H). z.seen ++ more.0) same) ∙ append_assoc r.seen more.0 own.0)))
-      (λ ne. h'.begins k r (set_else views n k q ne ∙ at'))) h in
+  pub step-log : (l : Layout) (log log' : List Event) (views views' : List (Part T H)) (n : ℕ) (p q : Part T H) (es : List Event) → IsStepOf n p q es views views'
+      → History l log views → History l log' views' → log' ≡ log ++ es
+  step-log l log log' views views' n p q es s h h' =
+      let grown : StartsWith log' log = begun-by l log log' views views' (λ k r at'. dite (ℕ_discrete k n)
+      (λ e. let same : p ≡ r = same_at views n p r s.before (ap (get_elem? views) (sym e) ∙ at') in let own = h'.begins n q s.after in
+      (s.seen.0 ++ own.0, own.1 ∙ (ap (λ (l : List Event). l ++ own.0) (s.seen.1 ∙ ap (λ (z : Part T H). z.seen ++ s.seen.0) same) ∙ append_assoc r.seen s.seen.0 own.0)))
+      (λ ne. let v = view k (at_within views k r at') in let o = s.others k v.0 v.1 ne in let same : o.0 ≡ r = same_at views k o.0 r o.1 at' in let own = h'.begins k v.0 v.1 in
+      (o.2.seen.0 ++ own.0, own.1 ∙ (ap (λ (l : List Event). l ++ own.0) (o.2.seen.1 ∙ ap (λ (z : Part T H). z.seen ++ o.2.seen.0) same) ∙ append_assoc r.seen o.2.seen.0 own.0)))) h in
       let zs = grown.0 in
-      let others : (j : ℕ) → j < length views → j ≢ n → by_thread j zs ≡ [] = λ j low ne. let v = view j low in
-      behind-same (by_thread j log) (by_thread j zs) [] (sym (by_thread-append j log zs) ∙ (ap (by_thread j) (sym grown.1) ∙ (h'.own j v.0 (set_else views n j q ne ∙ v.1) ∙ (sym (h.own j v.0 v.1) ∙ sym (append-nil (by_thread j log)))))) in
+      let others : (j : ℕ) → j < length views → j ≢ n → by_thread j zs ≡ [] = λ j low ne. let v = view j low in let o = s.others j v.0 v.1 ne in
+      behind-same (by_thread j log) (by_thread j zs) [] (sym (by_thread-append j log zs) ∙ (ap (by_thread j) (sym grown.1) ∙ (h'.own j v.0 v.1 ∙ (o.2.mine ∙ (sym (h.own j o.0 o.1) ∙ sym (append-nil (by_thread j log))))))) in
       let own : by_thread n zs ≡ es =
-      behind-same (by_thread n log) (by_thread n zs) es (sym (by_thread-append n log zs) ∙ (ap (by_thread n) (sym grown.1) ∙ (h'.own n q here ∙ (adds ∙ ap (λ (l : List Event). l ++ es) (sym (h.own n p at)))))) in
-      let people : Each (λ i e. e.thread.0 < length views) zs = λ i e there. subst (λ (z : ℕ). e.thread.0 < z) (length-set views n q)
+      behind-same (by_thread n log) (by_thread n zs) es (sym (by_thread-append n log zs) ∙ (ap (by_thread n) (sym grown.1) ∙ (h'.own n q s.after ∙ (s.mine ∙ ap (λ (l : List Event). l ++ es) (sym (h.own n p s.before)))))) in
+      let people : Each (λ i e. e.thread.0 < length views) zs = λ i e there. subst (λ (z : ℕ). e.thread.0 < z) s.count
       (h'.people (length log + i) e (ap (λ (l : List Event). get_elem? l (length log + i)) grown.1 ∙ (at-behind log zs i ∙ there))) in
       grown.1 ∙ ap (λ (l : List Event). log ++ l) (sym (only-by zs n (length views) people others) ∙ own)
     where
-      view : (j : ℕ) → j < length views → (r : Part T H) × (get_elem? views j ≡ some r)
-      view j low = at_below views j low
+      view : (j : ℕ) → j < length views → (r : Part T H) × (get_elem? views' j ≡ some r)
+      view j low = let many = s.count in at_below views' j (omega arith)
 
 pub step-state : (v : Version) (log log' : List Event) (state state' : Spec) (es : List Event) → IsRun v log state → IsRun v log' state' → log' ≡ log ++ es → Leads state es state'
 step-state v log log' state state' es run run' is =

@@ -10,6 +10,7 @@ use Rattle.larch_actions.specs.declared.event.Event.{Event}
 use Rattle.larch_actions.specs.declared.event.Action.{Action}
 use Rattle.larch_actions.specs.declared.event.Action.TheVariants.{Enqueue, AlertEnqueue, AlertRaise, Signal, Broadcast}
 use Rattle.larch_actions.specs.declared.event.Layout.{Layout}
+use Rattle.larch_actions.specs.declared.event.Life.TheVariants.{Live}
 use Rattle.larch_actions.specs.Actions.{Spec, MeetsChoice, Leads, acted, at_first, put}
 use Rattle.larch_actions.specs.Sets.{mem, in_set}
 use Rattle.larch_actions.proofs.Sets.{mem-here, mem-else}
@@ -30,7 +31,7 @@ use Rattle.nub_rule.specs.declared.view.Kind.TheVariants.{Root, Member, Collecto
 use Rattle.nub_rule.specs.Rule.{ChildFits, FitsAs, IsKept, IsOfChild, IsWith}
 use Rattle.atomic_table.specs.Table.{State}
 use Rattle.nub_rule.specs.Items.{Each, Marks, Says, PenFits, Core, queue_of}
-use Rattle.nub_rule.specs.Parts.{Has, counts_in, is_at, is_open, open_on, stands_at, waits_on}
+use Rattle.nub_rule.specs.Parts.{Has, HasNothing, counts_in, is_at, is_open, open_on, stands_at, waits_on}
 use Rattle.nub_rule.specs.Places.{alert_at, bit_at, cond_object, count_at, number_at, pen_at, ready_at, sem_object, spin_at}
 use Rattle.nub_rule.specs.PackageRule.{AnyView, HasBitInWait, IsFlagOf, IsKnown, SaysHolds, OwesAt, Owes, History, Meaning, MutexBits, SpinWords, QueuedThreads, ReadyWords, NoWakeLost, IsReady, CountsRead, BegunWaits, ValuesAndShares, Numbering, PackageRule, AreViews, ChildIs}
 use Rattle.nub_rule.proofs.Each.{at_below, put-at, put-else, same_at}
@@ -342,8 +343,8 @@ module _ {T H W : Type 0} (l : Layout) (traced : Bool) (w : W) (holds : W → Li
     places = λ n p at. (c.told.each n p at).placed;
   }
 
-  pub rule-of : PackageRule l traced (holds w) words homes all
-  rule-of = record {
+  pub rule-of : Each (λ n p. p.life ≢ Live → HasNothing p) all → PackageRule l traced (holds w) words homes all
+  rule-of idle = record {
     log = c.log;
     state = c.spec;
     queue = c.queue;
@@ -359,7 +360,7 @@ module _ {T H W : Type 0} (l : Layout) (traced : Bool) (w : W) (holds : W → Li
     ready_words = ready_words;
     no_wake_lost = no_wake_lost;
     alert_seen = c.alert_seen;
-    life_words = record { word = c.lives; life = c.shows.lives };
+    life_words = record { word = c.lives; life = c.shows.lives; idle = idle };
     counts_read = counts_read;
     begun_waits = begun_waits;
     values_and_shares = values_and_shares;
@@ -394,6 +395,7 @@ module _ {T H W : Type 0} (l : Layout) (traced : Bool) (w : W) (begin : W → �
     seated = λ id v at is. (fits-as id v Member at is).own;
     back = λ id v at is n p there. ((fits-as id v Collector at is).came_back n p there).1;
     child = λ id v at is. child-is id v v.child (fits-as id v Member at is).child;
+    childless = λ id v at is dead. ((fits-as id v Member at is).idle dead).1;
     each = λ n lo. let o = k.placed n lo in (k.seat_of n, o.0, o.1, o.2);
     once = λ n i j v u lo at there here too. seat-by i v v.kind n lo (k.fits i v at) here ∙ sym (seat-by j u u.kind n lo (k.fits j u there) too);
     to_come = λ id v at is n lo hi. let r = fits-as id v Root at is in (r.unborn n (subst (λ (z : ℕ). z ≤ n) r.next lo) hi).1;

@@ -1,4 +1,5 @@
 pub mod Each
+pub mod Idle
 pub mod Apart
 pub mod Members
 pub mod Runs
@@ -43,5 +44,7 @@ pub mod Ends
 pub mod Ordering
 pub mod History
 pub mod Law
+pub mod Seated
+pub mod Consequences
 pub mod LifeSteps
 pub mod ForkSteps

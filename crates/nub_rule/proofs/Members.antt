@@ -17,7 +17,7 @@ use Rattle.nub_rule.specs.declared.view.Kind.{Kind}
 use Rattle.nub_rule.specs.declared.view.Kind.TheVariants.{Root, Member, Collector, Spent}
 use Rattle.nub_rule.specs.Items.{Core}
 use Rattle.nub_rule.specs.Plays.{with_part}
-use Rattle.nub_rule.specs.Rule.{ChildFits, FitsAs, SeatFits, IsKept, IsWith}
+use Rattle.nub_rule.specs.Rule.{ChildFits, FitsAs, HasNothingUnlessLive, SeatFits, IsKept, IsWith}
 use Rattle.nub_rule.proofs.Each.{at_within, same_at}
 
 module _ {T H W : Type 0} where
@@ -52,10 +52,10 @@ module _ {T H W : Type 0} (version : Version) (threads given : ℕ) (w : W) (beg
       let apart : (k : ℕ) → seat_of k ≡ 0 → k ≢ n = λ k z e. let t = ap seat_of e in omega arith in
       record { world = f.world; first = f.first; next = f.next; of = f.of; unborn = λ k lo hi. let r = f.unborn k lo hi in (r.0, set_else all n k q (apart k r.0) ∙ r.1) }
   others_fit n q own id up sits ne v Member f =
-      record { world = f.world; later = f.later; given_out = f.given_out; sits = f.sits; own = set_else all n v.number q (λ e. let t = ap seat_of e in let u = f.sits in ne (omega arith)) ∙ f.own; child = child_fits n q id v v.child (λ k z _ e. ne (sym z ∙ (ap seat_of e ∙ sits))) f.child }
+      record { world = f.world; later = f.later; given_out = f.given_out; sits = f.sits; own = set_else all n v.number q (λ e. let t = ap seat_of e in let u = f.sits in ne (omega arith)) ∙ f.own; child = child_fits n q id v v.child (λ k z _ e. ne (sym z ∙ (ap seat_of e ∙ sits))) f.child; idle = f.idle }
   others_fit n q own id up sits ne v Collector f =
       let apart : (k : ℕ) → seat_of k ≡ id → k ≢ n = λ k z e. ne (sym z ∙ (ap seat_of e ∙ sits)) in
-      record { world = f.world; few = f.few; came_back = λ k p at. let r = f.came_back k p at in (r.0, set_else all n k q (apart k r.0) ∙ r.1) }
+      record { world = f.world; few = f.few; came_back = λ k p at. let r = f.came_back k p at in (r.0, set_else all n k q (apart k r.0) ∙ r.1, r.2) }
   others_fit n q own id up sits ne v Spent f = tt
 
 module _ {T H W : Type 0} (l : Layout) (traced : Bool) (w : W) (begin : W → ℕ → H) (holds : W → List T → List H → Type 0) where
@@ -65,9 +65,10 @@ module _ {T H W : Type 0} (l : Layout) (traced : Bool) (w : W) (begin : W → �
       → (q : Part T H) × (a : Act (Slot T)) × Valid homes cs a × Core l traced w holds (set words i (f (get_or words i 0))) (homes_after homes cs a) (set all n q) × then (get_or words i 0) q (carried_after cs a)
 
   pub member_steps : (slots id i : ℕ) (f : ℕ → ℕ) (v : View T H W) (cs : List (ℕ × Slot T)) (then : ℕ → Part T H → List (ℕ × Slot T) → Type 0) (then' : ℕ → Me (Slot T) (View T H W) → Type 0)
-      → v.kind ≡ Member → ((r : ℕ) (q : Part T H) (ds : List (ℕ × Slot T)) → v.world ≡ Some w → then r q ds → then' r (with_part v q, ds))
+      → v.kind ≡ Member → ((r : ℕ) (q : Part T H) (ds : List (ℕ × Slot T)) → then r q ds → HasNothingUnlessLive v.part v.child → HasNothingUnlessLive q v.child)
+      → ((r : ℕ) (q : Part T H) (ds : List (ℕ × Slot T)) → v.world ≡ Some w → then r q ds → then' r (with_part v q, ds))
       → Steps v.number i f v.part cs then → Allows (IsKept l traced w begin holds) slots id (v, cs) i f then'
-  member_steps slots id i f v cs then then' kind tells steps s r wide at small =
+  member_steps slots id i f v cs then then' kind stays tells steps s r wide at small =
       let sf = r.fits id v at in
       let own : FitsAs l.version l.threads r.given w begin r.all r.seat_of id v Member = subst (FitsAs l.version l.threads r.given w begin r.all r.seat_of id v) kind sf in
       let t = steps s.words s.homes r.all r.core own.own small in
@@ -82,7 +83,7 @@ module _ {T H W : Type 0} (l : Layout) (traced : Bool) (w : W) (begin : W → �
           seated = subst (λ (z : ℕ). 0 < z) (sym (length-set s.views id (with_part v q))) r.seated;
           fits = λ j u e. ⊎_elim
               (λ (h : (j ≡ id) × (with_part v q ≡ u)). subst (λ (z : ℕ × View T H W). SeatFits l.version l.threads r.given w begin (set r.all v.number q) r.seat_of z.0 z.1) (λ k. (sym h.0 k, h.1 k))
-              (subst (FitsAs l.version l.threads r.given w begin (set r.all v.number q) r.seat_of id (with_part v q)) (sym kind) record { world = own.world; later = own.later; given_out = own.given_out; sits = own.sits; own = set_here r.all v.number q (at_within r.all v.number v.part own.own); child = child_fits l.version l.threads r.given w begin r.all r.seat_of v.number q id v v.child (λ k _ ne. ne) own.child }))
+              (subst (FitsAs l.version l.threads r.given w begin (set r.all v.number q) r.seat_of id (with_part v q)) (sym kind) record { world = own.world; later = own.later; given_out = own.given_out; sits = own.sits; own = set_here r.all v.number q (at_within r.all v.number v.part own.own); child = child_fits l.version l.threads r.given w begin r.all r.seat_of v.number q id v v.child (λ k _ ne. ne) own.child; idle = stays _ q _ t.4 own.idle }))
               (λ (h : (j ≢ id) × (get_elem? s.views j ≡ some u)). let o = r.fits j u h.1 in others_fit l.version l.threads r.given w begin r.all r.seat_of v.number q id j own.later own.sits h.0 u u.kind o)
               (at_set s.views id j (with_part v q) u e);
           placed = λ n lo. placed-set s.views id (r.seat_of n) n v (with_part v q) Member Member at kind kind (λ is. is) (r.placed n lo);

@@ -19,6 +19,7 @@ use Rattle.nub_rule.specs.Places.{bit_at, pen_at, number_at}
 use Rattle.nub_rule.specs.Plays.{with_part, take_pen_tells, read_number_tells, write_number_tells, give_pen_tells}
 use Rattle.nub_rule.specs.Rule.{IsKept}
 use Rattle.nub_rule.proofs.Each.{at_within, each-set}
+use Rattle.nub_rule.proofs.Idle.{idle-penned, idle-same}
 use Rattle.nub_rule.proofs.Members.{member_steps}
 use Rattle.nub_rule.proofs.Frames.{lives-stay, other, spins-frame, lines-frame, shows-frame, bits-stay, ready-stay, spins-stay, shown-stay, alert-seen-stays}
 use Rattle.nub_rule.proofs.Beginning.{waits-stay, begun-same}
@@ -166,6 +167,7 @@ module _ {T H W : Type 0} (l : Layout) (traced : Bool) (w : W) (begin : W → �
   pub take_pen_keeps : (slots id : ℕ) (me : Me (Slot T) (View T H W)) → traced ≡ true → me.0.kind ≡ Member → me.0.part.pen ≡ No → Allows (IsKept l traced w begin holds) slots id me pen_at (λ x. either (eqb x 0) 1 x) (take_pen_tells (step slots pen_at 0 1 none) me)
   take_pen_keeps slots id me traces kind out = let v = me.0 in let n = v.number in let p = v.part in let q : Part T H = record p { pen = Taken } in member_steps l traced w begin holds slots id pen_at (λ x. either (eqb x 0) 1 x) v me.1
       (λ r s ds. ((r ≡ 0) × (s ≡ q) × (ds ≡ me.1)) ⊎ ((r ≡ 1) × (s ≡ p) × (ds ≡ me.1))) (take_pen_tells (step slots pen_at 0 1 none) me) kind
+      (λ r s ds t. ⊎_elim (λ (u : (r ≡ 0) × (s ≡ q) × (ds ≡ me.1)). idle-penned p s v.child Taken u.1) (λ (u : (r ≡ 1) × (s ≡ p) × (ds ≡ me.1)). idle-same p s v.child u.1) t)
       (λ r s ds world t. ⊎_elim
       (λ (u : (r ≡ 0) × (s ≡ q) × (ds ≡ me.1)). ((λ _. λ i. (with_part v (u.1 i), u.2 i)), λ lacks. absurd (lacks u.0)))
       (λ (u : (r ≡ 1) × (s ≡ p) × (ds ≡ me.1)). ((λ hit. let one = u.0 in absurd (omega arith)), λ _. (u.0, λ i. (with_part v (u.1 i), u.2 i)))) t)
@@ -184,6 +186,7 @@ module _ {T H W : Type 0} (l : Layout) (traced : Bool) (w : W) (begin : W → �
   pub read_number_keeps : (slots id : ℕ) (me : Me (Slot T) (View T H W)) → me.0.kind ≡ Member → me.0.part.pen ≡ Taken → Allows (IsKept l traced w begin holds) slots id me number_at (λ x. x) (read_number_tells (step slots number_at 0 0 none) me)
   read_number_keeps slots id me kind has = let v = me.0 in let n = v.number in let p = v.part in member_steps l traced w begin holds slots id number_at (λ x. x) v me.1
       (λ r s ds. (s ≡ record p { pen = Read r }) × (ds ≡ me.1)) (read_number_tells (step slots number_at 0 0 none) me) kind
+      (λ r s ds t. idle-penned p s v.child (Read r) t.0)
       (λ r s ds world t. λ i. (with_part v (t.0 i), t.1 i))
       (λ words homes all c at small. let r : ℕ = get_or words number_at 0 in let len = c.sizes.words_wide in let q : Part T H = record p { pen = Read r } in let words' = set words number_at r in
       let old : PenFits (length c.log) r c.writer n Taken = subst (PenFits (length c.log) r c.writer n) has (c.pens.pens n p at) in let same : get_or words' number_at 0 ≡ r = get_or-set_same words number_at r 0 (omega arith) in (
@@ -198,6 +201,7 @@ module _ {T H W : Type 0} (l : Layout) (traced : Bool) (w : W) (begin : W → �
   pub write_number_keeps : (slots id k x : ℕ) (me : Me (Slot T) (View T H W)) → me.0.kind ≡ Member → me.0.part.pen ≡ Made k → x ≡ k + 1 → Allows (IsKept l traced w begin holds) slots id me number_at (λ _. x) (λ _. write_number_tells (step slots number_at x 0 none) me x)
   write_number_keeps slots id k x me kind has next = let v = me.0 in let n = v.number in let p = v.part in let q : Part T H = record p { pen = Written } in member_steps l traced w begin holds slots id number_at (λ _. x) v me.1
       (λ r s ds. (s ≡ q) × (ds ≡ me.1)) (λ _. write_number_tells (step slots number_at x 0 none) me x) kind
+      (λ r s ds t. idle-penned p s v.child Written t.0)
       (λ r s ds world t. λ i. (with_part v (t.0 i), t.1 i))
       (λ words homes all c at small. let len = c.sizes.words_wide in let words' = set words number_at x in
       let old : PenFits (length c.log) (get_or words number_at 0) c.writer n (Made k) = subst (PenFits (length c.log) (get_or words number_at 0) c.writer n) has (c.pens.pens n p at) in let same : get_or words' number_at 0 ≡ x = get_or-set_same words number_at x 0 (omega arith) in (
@@ -212,6 +216,7 @@ module _ {T H W : Type 0} (l : Layout) (traced : Bool) (w : W) (begin : W → �
   pub give_pen_keeps : (slots id : ℕ) (me : Me (Slot T) (View T H W)) → me.0.kind ≡ Member → MayGivePen me.0.part.pen → Allows (IsKept l traced w begin holds) slots id me pen_at (λ _. 0) (give_pen_tells (step slots pen_at 0 0 none) me)
   give_pen_keeps slots id me kind may = let v = me.0 in let n = v.number in let p = v.part in let q : Part T H = record p { pen = No } in member_steps l traced w begin holds slots id pen_at (λ _. 0) v me.1
       (λ r s ds. (r ≡ 1) × (s ≡ q) × (ds ≡ me.1)) (give_pen_tells (step slots pen_at 0 0 none) me) kind
+      (λ r s ds t. idle-penned p s v.child No t.1)
       (λ r s ds world t. (t.0, λ i. (with_part v (t.1 i), t.2 i)))
       (λ words homes all c at small. let r : ℕ = get_or words pen_at 0 in let len = c.sizes.words_wide in let words' = set words pen_at 0 in
       let old = may-give (length c.log) (get_or words number_at 0) n c.writer p.pen may (c.pens.pens n p at) in

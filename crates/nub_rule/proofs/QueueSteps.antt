@@ -20,6 +20,7 @@ use Rattle.nub_rule.specs.Places.{length_at, spin_at, bit_at}
 use Rattle.nub_rule.specs.Plays.{Becomes, with_part, read_length_tells, push_gate_tells, take_out_tells, pop_gate_tells, behind, front, less}
 use Rattle.nub_rule.specs.Rule.{IsKept}
 use Rattle.nub_rule.proofs.Each.{put-here, put-else, at_below}
+use Rattle.nub_rule.proofs.Idle.{idle-looked, idle-spun}
 use Rattle.nub_rule.proofs.Members.{member_steps}
 use Rattle.nub_rule.specs.Parts.{stands_at}
 use Rattle.nub_rule.specs.Owed.{WakeOwed}
@@ -105,6 +106,7 @@ module _ {T H W : Type 0} (l : Layout) (traced : Bool) (w : W) (begin : W → �
   read_length_at slots id o me far kind = let v = me.0 in let n = v.number in let p = v.part in let i = length_at o in
       let Out : ℕ → Part T H → Type 0 = λ r q. (r ≡ 0 → q ≡ record p { cleared = without o p.cleared; looked = without o p.looked }) × (r ≢ 0 → mem o p.cleared ≡ true → q ≡ record p { looked = o ∷ p.looked }) × (r ≢ 0 → mem o p.cleared ≡ false → q ≡ p) in
       member_steps l traced w begin holds slots id i (λ x. x) v me.1 (λ r q ds. Out r q × (ds ≡ me.1)) (read_length_tells (step slots i 0 0 none) me) kind
+      (λ r q ds t. idle-looked p q v.child o r t.0)
       (λ r q ds world t k is. let e : o ≡ k = omega arith in subst (λ (k : ℕ). (r ≡ 0 → Becomes me (record p { cleared = without k p.cleared; looked = without k p.looked }) (with_part v q, ds)) × (r ≢ 0 → mem k p.cleared ≡ true → Becomes me (record p { looked = k ∷ p.looked }) (with_part v q, ds)) × (r ≢ 0 → mem k p.cleared ≡ false → (with_part v q, ds) ≡ me)) e
       ((λ hit j. (with_part v (t.0.0 hit j), t.1 j)), (λ miss is' j. (with_part v (t.0.1 miss is' j), t.1 j)), (λ miss out j. (with_part v (t.0.2 miss out j), t.1 j))))
       (λ words homes all c at small. dite (ℕ_discrete (get_or words i 0) 0)
@@ -122,6 +124,7 @@ module _ {T H W : Type 0} (l : Layout) (traced : Bool) (w : W) (begin : W → �
       let q : Part T H = record p { queue = ys; left = p.left ++ n ∷ []; stand = Some st } in
       subst (λ (z : ℕ). Allows (IsKept l traced w begin holds) slots id me (length_at o) (λ _. z) (λ _. push_gate_tells (step slots (length_at o) z 0 none) me z)) (sym long)
       (member_steps l traced w begin holds slots id (length_at o) (λ _. length ys) v me.1 (λ x s ds. (s ≡ q) × (ds ≡ me.1)) (λ _. push_gate_tells (step slots (length_at o) (length ys) 0 none) me (length ys)) kind
+      (λ x s ds t. idle-spun p s v.child o here (ap (λ (z : Part T H). z.life) t.0))
       (λ x s ds world t k is. let e : o ≡ k = omega arith in (λ i. (with_part v (t.0 i), t.1 i)) ∙ (λ i. (with_part v (record p { queue = ys; left = p.left ++ n ∷ []; stand = Some record { at = e i; stage = Pushed } }), me.1)))
       (λ words homes all c at small.
       let mine = (c.spins.spinning n p at o).0 here in
@@ -152,6 +155,7 @@ module _ {T H W : Type 0} (l : Layout) (traced : Bool) (w : W) (begin : W → �
       let q : Part T H = record p { queue = ys; left = less n p.left; stand = None; turns = o ∷ p.turns } in
       subst (λ (z : ℕ). Allows (IsKept l traced w begin holds) slots id me (length_at o) (λ _. z) (λ _. take_out_tells (step slots (length_at o) z 0 none) me z)) (sym long)
       (member_steps l traced w begin holds slots id (length_at o) (λ _. length ys) v me.1 (λ x s ds. (s ≡ q) × (ds ≡ me.1)) (λ _. take_out_tells (step slots (length_at o) (length ys) 0 none) me (length ys)) kind
+      (λ x s ds t. idle-spun p s v.child o here (ap (λ (z : Part T H). z.life) t.0))
       (λ x s ds world t k is. let e : o ≡ k = omega arith in (λ i. (with_part v (t.0 i), t.1 i)) ∙ (λ i. (with_part v (record p { queue = ys; left = less n p.left; stand = None; turns = e i ∷ p.turns }), me.1)))
       (λ words homes all c at small.
       let mine = (c.spins.spinning n p at o).0 here in
@@ -185,6 +189,7 @@ module _ {T H W : Type 0} (l : Layout) (traced : Bool) (w : W) (begin : W → �
       let q : Part T H = record p { queue = ys; owed = p.owed ++ front p.queue; left = behind p.left; cleared = without o p.cleared; looked = without o p.looked } in
       subst (λ (z : ℕ). Allows (IsKept l traced w begin holds) slots id me (length_at o) (λ _. z) (λ _. pop_gate_tells (step slots (length_at o) z 0 none) me z)) (sym long)
       (member_steps l traced w begin holds slots id (length_at o) (λ _. length ys) v me.1 (λ x s ds. (s ≡ q) × (ds ≡ me.1)) (λ _. pop_gate_tells (step slots (length_at o) (length ys) 0 none) me (length ys)) kind
+      (λ x s ds t. idle-spun p s v.child o here (ap (λ (z : Part T H). z.life) t.0))
       (λ x s ds world t k is. let e : o ≡ k = omega arith in (λ i. (with_part v (t.0 i), t.1 i)) ∙ (λ i. (with_part v (record p { queue = ys; owed = p.owed ++ front p.queue; left = behind p.left; cleared = without (e i) p.cleared; looked = without (e i) p.looked }), me.1)))
       (λ words homes all c at small.
       let mine = (c.spins.spinning n p at o).0 here in

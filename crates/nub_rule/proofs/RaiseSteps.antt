@@ -18,6 +18,7 @@ use Rattle.nub_rule.specs.Plays.{Becomes, Grows, told, with_part, alert_raise_ev
 use Rattle.nub_rule.specs.Rule.{IsKept}
 use Rattle.nub_rule.proofs.Apart.{thread-of}
 use Rattle.nub_rule.proofs.Each.{put-here, put-else}
+use Rattle.nub_rule.proofs.Idle.{idle-live}
 use Rattle.nub_rule.proofs.Members.{Steps, member_steps}
 use Rattle.nub_rule.proofs.Frames.{lives-frame, lives-stay, lived-frame, other, semaphores-frame}
 use Rattle.nub_rule.proofs.Lines.{not_true, stand_none, mem-behind}
@@ -76,6 +77,7 @@ module _ {T H W : Type 0} (l : Layout) (traced : Bool) (w : W) (begin : W → �
       here : Allows (IsKept l traced w begin holds) slots id me (alert_at me.0.number) (λ _. 0) (swap_alert_in_raise_tells (step slots (alert_at me.0.number) 0 0 none) me)
       here = let v = me.0 in let n = v.number in let p = v.part in member_steps l traced w begin holds slots id (alert_at n) (λ _. 0) v me.1
           (λ r q ds. (r ≡ 1) × Learns (alert_raise_event n x.mutex.0 x.cond.0) n p (raised n x p) q × (ds ≡ me.1)) (swap_alert_in_raise_tells (step slots (alert_at n) 0 0 none) me) kind
+          (λ r q ds t. idle-live p q v.child may.0 (ap (λ (z : Part T H). z.life) t.1.2))
           (λ r q ds world t x' is. let same : x ≡ x' = same-wait x x' (sym before ∙ is) in
           subst (λ (z : Wait). (r ≡ 1) × (between : List Event) × Grows n p between (alert_raise_event n z.mutex.0 z.cond.0) × Becomes me (raised n z p (p.seen ++ between)) (with_part v q, ds)) same
           (t.0, t.1.0, t.1.1, λ j. (with_part v (t.1.2 j), t.2 j)))

@@ -24,6 +24,7 @@ use Rattle.nub_rule.specs.Plays.{with_part, set_ready_tells, read_ready_tells, c
 use Rattle.nub_rule.specs.Rule.{IsKept}
 use Rattle.nub_rule.proofs.Apart.{thread-of}
 use Rattle.nub_rule.proofs.Each.{at_below, put-here, put-else}
+use Rattle.nub_rule.proofs.Idle.{idle-spun, idle-stood}
 use Rattle.nub_rule.proofs.Members.{member_steps}
 use Rattle.nub_rule.proofs.Frames.{lives-stay, other, spins-frame, shows-frame, pens-frame, bits-stay, spins-stay, shown-stay, pen-stay, alert-seen-stays, alert-seen-frame}
 use Rattle.nub_rule.proofs.Lines.{some_none, false_true, mem-append, distinct-apart, without-append, without-absent, lines-ready, lines-unready, lines-stage}
@@ -43,6 +44,7 @@ module _ {T H W : Type 0} (l : Layout) (traced : Bool) (w : W) (begin : W → �
   set_ready_at slots id t me low kind settled inside there = let v = me.0 in let n = v.number in let p = v.part in let q : Part T H = record p { owed = without t p.owed } in
       let spins = inside_of p.spin p.owed t settled there in let o = spins.0 in let here = spins.1 in let below = inside o here in
       member_steps l traced w begin holds slots id (ready_at t) (λ _. 1) v me.1 (λ r s ds. (r ≡ 0) × (s ≡ q) × (ds ≡ me.1)) (set_ready_tells (step slots (ready_at t) 1 0 none) me) kind
+      (λ r s ds u. idle-spun p s v.child o here (ap (λ (z : Part T H). z.life) u.1))
       (λ r s ds world u k few is. let e : t ≡ k = thread-of t k low few (omega arith) in (u.0, (λ i. (with_part v (u.1 i), u.2 i)) ∙ (λ i. (with_part v (record p { owed = without (e i) p.owed }), me.1))))
       (λ words homes all c at small.
       let s = c.spins in
@@ -90,6 +92,7 @@ module _ {T H W : Type 0} (l : Layout) (traced : Bool) (w : W) (begin : W → �
   test_again_keeps slots id i me s a b kind stood word untested na nb sa sb = let v = me.0 in let n = v.number in let p = v.part in
       member_steps l traced w begin holds slots id i (λ x. x) v me.1 (λ r q ds. ((r ≡ 0) × (q ≡ record p { stand = staged a p.stand }) × (ds ≡ me.1)) ⊎ ((r ≢ 0) × (q ≡ record p { stand = staged b p.stand }) × (ds ≡ me.1)))
       (λ r me'. (u : Stand) → p.stand ≡ Some u → i ≡ bit_at u.at → (r ≡ 0 → me' ≡ (with_part v (record p { stand = staged a p.stand }), me.1)) × (r ≢ 0 → me' ≡ (with_part v (record p { stand = staged b p.stand }), me.1))) kind
+      (λ r q ds t. idle-stood p q v.child s stood (⊎_elim (λ (u : (r ≡ 0) × (q ≡ record p { stand = staged a p.stand }) × (ds ≡ me.1)). ap (λ (z : Part T H). z.life) u.1) (λ (u : (r ≢ 0) × (q ≡ record p { stand = staged b p.stand }) × (ds ≡ me.1)). ap (λ (z : Part T H). z.life) u.1) t))
       (λ r q ds world t. λ here stands word. ⊎_elim
       (λ (u : (r ≡ 0) × (q ≡ record p { stand = staged a p.stand }) × (ds ≡ me.1)). ((λ _. λ j. (with_part v (u.1 j), u.2 j)), λ miss. absurd (miss u.0)))
       (λ (u : (r ≢ 0) × (q ≡ record p { stand = staged b p.stand }) × (ds ≡ me.1)). ((λ hit. absurd (u.0 hit)), λ _. λ j. (with_part v (u.1 j), u.2 j))) t)
@@ -101,6 +104,7 @@ module _ {T H W : Type 0} (l : Layout) (traced : Bool) (w : W) (begin : W → �
   read_ready_at slots id me s kind stood tested looked = let v = me.0 in let n = v.number in let p = v.part in let i = ready_at n in
       member_steps l traced w begin holds slots id i (λ x. x) v me.1 (λ r q ds. ((r ≡ 0) × (q ≡ record p { stand = staged Asleep p.stand }) × (ds ≡ me.1)) ⊎ ((r ≡ 1) × (q ≡ record p { stand = staged Found p.stand }) × (ds ≡ me.1)))
       (read_ready_tells (step slots i 0 0 none) me) kind
+      (λ r q ds t. idle-stood p q v.child s stood (⊎_elim (λ (u : (r ≡ 0) × (q ≡ record p { stand = staged Asleep p.stand }) × (ds ≡ me.1)). ap (λ (z : Part T H). z.life) u.1) (λ (u : (r ≡ 1) × (q ≡ record p { stand = staged Found p.stand }) × (ds ≡ me.1)). ap (λ (z : Part T H). z.life) u.1) t))
       (λ r q ds world t. ⊎_elim
       (λ (u : (r ≡ 0) × (q ≡ record p { stand = staged Asleep p.stand }) × (ds ≡ me.1)). ((λ _. λ j. (with_part v (u.1 j), u.2 j)), λ miss. absurd (miss u.0)))
       (λ (u : (r ≡ 1) × (q ≡ record p { stand = staged Found p.stand }) × (ds ≡ me.1)). ((λ hit. absurd (let z = u.0 in omega arith)), λ _. (u.0, λ j. (with_part v (u.1 j), u.2 j)))) t)
@@ -112,6 +116,7 @@ module _ {T H W : Type 0} (l : Layout) (traced : Bool) (w : W) (begin : W → �
   clear_ready_at : (slots id : ℕ) (me : Me (Slot T) (View T H W)) (s : Stand) → me.0.number < most_threads → me.0.kind ≡ Member → me.0.part.stand ≡ Some s → IsFound s.stage → Allows (IsKept l traced w begin holds) slots id me (ready_at me.0.number) (λ _. 0) (clear_ready_tells (step slots (ready_at me.0.number) 0 0 none) me)
   clear_ready_at slots id me s low kind stood found = let v = me.0 in let n = v.number in let p = v.part in let i = ready_at n in let q : Part T H = record p { stand = None; turns = turned p.stand p.turns } in
       member_steps l traced w begin holds slots id i (λ _. 0) v me.1 (λ r x ds. (r ≡ 1) × (x ≡ q) × (ds ≡ me.1)) (clear_ready_tells (step slots i 0 0 none) me) kind
+      (λ r x ds t. idle-stood p x v.child s stood (ap (λ (z : Part T H). z.life) t.1))
       (λ r x ds world t. (t.0, λ j. (with_part v (t.1 j), t.2 j)))
       (λ words homes all c at small. let words' : List ℕ = set words i 0 in let one = (c.lines.stands n p at).found s stood found in let wide = c.sizes.words_wide in (
         q,

@@ -6,6 +6,7 @@ use native.Mathlib.Decide.{ℕ_discrete}
 use lib.ListN.{get_elem?}
 use Rattle.larch_actions.specs.declared.event.Event.{Event}
 use Rattle.larch_actions.specs.declared.event.Layout.{Layout}
+use Rattle.larch_actions.specs.declared.event.Life.TheVariants.{Live}
 use Rattle.larch_actions.specs.declared.event.Version.{Version}
 use Rattle.atomic_table.specs.Table.{Splits, Joins, Enters}
 use Rattle.atomic_table.proofs.Lists.{at_last, at_set, set_else, set_here}
@@ -15,10 +16,11 @@ use Rattle.nub_rule.specs.declared.view.Part.{Part}
 use Rattle.nub_rule.specs.declared.view.View.{View}
 use Rattle.nub_rule.specs.declared.view.Kind.{Kind}
 use Rattle.nub_rule.specs.declared.view.Kind.TheVariants.{Root, Member, Collector, Spent}
-use Rattle.larch_actions.specs.Actions.{put}
+use Rattle.larch_actions.specs.Actions.{lives_at_first, put}
 use Rattle.nub_rule.specs.Parts.{first_part, newborn, unborn}
-use Rattle.nub_rule.specs.Rule.{begun, left_view, member_view, collector_view, both_views, spent_view, taking_view, handing_view, handed_view, ChildFits, FitsAs, IsKept, IsOfChild, IsWith}
+use Rattle.nub_rule.specs.Rule.{begun, left_view, member_view, collector_view, both_views, spent_view, taking_view, handing_view, handed_view, ChildFits, FitsAs, HasNothingUnlessLive, IsKept, IsOfChild, IsWith}
 use Rattle.nub_rule.proofs.Each.{put-here, put-else, put-at, at_new, at_within}
+use Rattle.nub_rule.proofs.Idle.{fresh-idle}
 use Rattle.nub_rule.proofs.Members.{Placed, placed-longer, placed-set}
 
 module _ {T H W : Type 0} (version : Version) (threads given : ℕ) (w : W) (begin : W → ℕ → H) (all : List (Part T H)) (seat_of : ℕ → ℕ) where
@@ -32,9 +34,9 @@ module _ {T H W : Type 0} (version : Version) (threads given : ℕ) (w : W) (beg
   back_fit n own x id sits up ne v Root f =
       record { world = f.world; first = f.first; next = f.next; of = f.of; unborn = λ k lo hi. let r = f.unborn k lo hi in (put-else seat_of n k x (λ e. let t = ap seat_of e in let u = r.0 in absurd (omega arith)) ∙ r.0, r.1) }
   back_fit n own x id sits up ne v Member f =
-      record { world = f.world; later = f.later; given_out = f.given_out; sits = put-else seat_of n v.number x (λ e. ne (sym f.sits ∙ (ap seat_of e ∙ sits))) ∙ f.sits; own = f.own; child = child-back n own x id sits ne v v.child f.child }
+      record { world = f.world; later = f.later; given_out = f.given_out; sits = put-else seat_of n v.number x (λ e. ne (sym f.sits ∙ (ap seat_of e ∙ sits))) ∙ f.sits; own = f.own; child = child-back n own x id sits ne v v.child f.child; idle = f.idle }
   back_fit n own x id sits up ne v Collector f =
-      record { world = f.world; few = f.few; came_back = λ k p at. let r = f.came_back k p at in (put-else seat_of n k x (λ e. ne (sym r.0 ∙ (ap seat_of e ∙ sits))) ∙ r.0, r.1) }
+      record { world = f.world; few = f.few; came_back = λ k p at. let r = f.came_back k p at in (put-else seat_of n k x (λ e. ne (sym r.0 ∙ (ap seat_of e ∙ sits))) ∙ r.0, r.1, r.2) }
   back_fit n own x id sits up ne v Spent f = tt
 
   child-given : (x id : ℕ) (v : View T H W) (c : Child) → ChildFits version threads given w begin all seat_of id v c → ChildFits version threads (given + 1) w begin all (put seat_of given x) id v c
@@ -52,9 +54,10 @@ module _ {T H W : Type 0} (version : Version) (threads given : ℕ) (w : W) (beg
     sits = put-else seat_of given v.number x (λ e. let t = ap seat_of e in let u = f.sits in let up = f.later in absurd (omega arith)) ∙ f.sits;
     own = f.own;
     child = child-given x id v v.child f.child;
+    idle = f.idle;
   }
   given_fit x id free ne v Collector f = let low = f.few in
-      record { world = f.world; few = omega arith; came_back = λ k p at. let r = f.came_back k p at in (put-else seat_of given k x (λ e. let t = at_within v.back k p at in absurd (omega arith)) ∙ r.0, r.1) }
+      record { world = f.world; few = omega arith; came_back = λ k p at. let r = f.came_back k p at in (put-else seat_of given k x (λ e. let t = at_within v.back k p at in absurd (omega arith)) ∙ r.0, r.1, r.2) }
   given_fit x id free ne v Spent f = tt
 
 -- a child of which nothing is said
@@ -96,6 +99,7 @@ module _ {T H W : Type 0} (l : Layout) (traced : Bool) (w : W) (begin : W → �
               sits = ap (put r.seat_of r.given x) next ∙ put-here r.seat_of r.given x;
               own = ap (get_elem? r.all) next ∙ (first.1 ∙ (λ i. some (first_part {T = T} (sym root.of i) (sym next i) (begun begin (sym next i) (sym root.world i)))));
               child = tt;
+              idle = λ _. (fresh-idle v.part.version (lives_at_first v.part.version v.next) [] (begun begin v.next v.world), refl);
             })
             (at_new (set s.views id (left_view v)) (member_view begin v) u j e);
         placed = λ n lo. dite (ℕ_discrete n r.given)
@@ -130,8 +134,8 @@ module _ {T H W : Type 0} (l : Layout) (traced : Bool) (w : W) (begin : W → �
               world = c.world;
               few = let low = m.given_out in omega arith;
               came_back = λ k p f. ⊎_elim
-                  (λ (g : get_elem? v.back k ≡ some p). let o = c.came_back k p g in (put-else r.seat_of n k id (λ z. let y = at_within v.back k p g in absurd (omega arith)) ∙ o.0, o.1))
-                  (λ (g : (k ≡ length v.back) × (u.part ≡ p)). let here : k ≡ n = g.0 ∙ sym order in (ap (put r.seat_of n id) here ∙ put-here r.seat_of n id, ap (get_elem? r.all) here ∙ (m.own ∙ ap some g.1)))
+                  (λ (g : get_elem? v.back k ≡ some p). let o = c.came_back k p g in (put-else r.seat_of n k id (λ z. let y = at_within v.back k p g in absurd (omega arith)) ∙ o.0, o.1, o.2))
+                  (λ (g : (k ≡ length v.back) × (u.part ≡ p)). let here : k ≡ n = g.0 ∙ sym order in (ap (put r.seat_of n id) here ∙ put-here r.seat_of n id, ap (get_elem? r.all) here ∙ (m.own ∙ ap some g.1), subst (λ (z : Part T H). HasNothingUnlessLive z No) g.1 (subst (HasNothingUnlessLive u.part) alone m.idle)))
                   (at_new v.back u.part p k f);
             }))
             (λ (i : (j ≢ id) × (get_elem? s.views j ≡ some x)). back j m.sits m.later h.0 x x.kind (r.fits j x i.1))
@@ -151,9 +155,9 @@ module _ {T H W : Type 0} (l : Layout) (traced : Bool) (w : W) (begin : W → �
       }
 
   -- a thread takes in the right to begin another, in whose seat nothing was done
-  pub takes : (id : ℕ) (v : View T H W) (other : ℕ) (u : View T H W) → v.kind ≡ Member → v.child ≡ No → u.kind ≡ Member → u.child ≡ No → u.part ≡ unborn u.part.version (begun begin u.number u.world)
+  pub takes : (id : ℕ) (v : View T H W) (other : ℕ) (u : View T H W) → v.kind ≡ Member → v.part.life ≡ Live → v.child ≡ No → u.kind ≡ Member → u.child ≡ No → u.part ≡ unborn u.part.version (begun begin u.number u.world)
       → Joins (IsKept l traced w begin holds) id v other u (taking_view v u) spent_view
-  takes id v other u kind free member alone bare s r at apart there =
+  takes id v other u kind live free member alone bare s r at apart there =
       let views = set s.views id (taking_view v u) in
       let mine : get_elem? s.views other ≡ some u = sym (set_else s.views id other (taking_view v u) apart) ∙ there in
       let c : FitsAs l.version l.threads r.given w begin r.all r.seat_of id v Member = subst (FitsAs l.version l.threads r.given w begin r.all r.seat_of id v) kind (r.fits id v at) in
@@ -180,6 +184,7 @@ module _ {T H W : Type 0} (l : Layout) (traced : Bool) (w : W) (begin : W → �
               sits = put-else r.seat_of n v.number id (λ e. other_one (sym e)) ∙ c.sits;
               own = c.own;
               child = (put-here r.seat_of n id, other_one, m.given_out, m.own ∙ (ap some bare ∙ (λ i. some (unborn {T = T} (of i) (begun begin n (m.world i))))));
+              idle = λ dead. absurd (dead live);
             }))
             (λ (i : (j ≢ id) × (get_elem? s.views j ≡ some x)). back j m.sits m.later h.0 x x.kind (r.fits j x i.1))
             (at_set s.views id j (taking_view v u) x h.1))
@@ -218,7 +223,7 @@ module _ {T H W : Type 0} (l : Layout) (traced : Bool) (w : W) (begin : W → �
         fits = λ j u e. ⊎_elim
             (λ (h : get_elem? (set s.views id (handing_view v)) j ≡ some u). ⊎_elim
             (λ (i : (j ≡ id) × (handing_view v ≡ u)). subst₂ (λ (a : ℕ) (b : View T H W). fits a b b.kind) (sym i.0) i.1
-            (subst (fits id (handing_view v)) (sym kind) record { world = c.world; later = c.later; given_out = c.given_out; sits = put-else r.seat_of t v.number x (λ e. f.1 (sym e)) ∙ c.sits; own = c.own; child = tt }))
+            (subst (fits id (handing_view v)) (sym kind) record { world = c.world; later = c.later; given_out = c.given_out; sits = put-else r.seat_of t v.number x (λ e. f.1 (sym e)) ∙ c.sits; own = c.own; child = tt; idle = λ dead. ((c.idle dead).0, refl) }))
             (λ (i : (j ≢ id) × (get_elem? s.views j ≡ some u)). back_fit l.version l.threads r.given w begin r.all r.seat_of t id x j f.0 c.later i.0 u u.kind (r.fits j u i.1))
             (at_set s.views id j (handing_view v) u h))
             (λ (h : (j ≡ length (set s.views id (handing_view v))) × (new ≡ u)). subst₂ (λ (a : ℕ) (b : View T H W). fits a b b.kind) (sym (h.0 ∙ there)) h.1
@@ -229,6 +234,7 @@ module _ {T H W : Type 0} (l : Layout) (traced : Bool) (w : W) (begin : W → �
               sits = put-here r.seat_of t x;
               own = f.3 ∙ (λ i. some (newborn {T = T} (sym of i) seen (begun begin t (sym c.world i))));
               child = tt;
+              idle = λ dead. absurd (dead refl);
             }))
             (at_new (set s.views id (handing_view v)) new u j e);
         placed = λ n lo. dite (ℕ_discrete n t)

@@ -25,6 +25,7 @@ use Rattle.nub_rule.specs.Parts.{MayTell, pending_of}
 use Rattle.nub_rule.specs.Places.{bit_at, count_at, alert_at, sem_object, cond_object}
 use Rattle.nub_rule.specs.Plays.{with_part, told, Grows, MayTakeSem, event, p_event, alert_p_event, p_action, v_event, try_p_tells, clear_sem_tells, Becomes}
 use Rattle.nub_rule.specs.Rule.{IsKept}
+use Rattle.nub_rule.proofs.Idle.{idle-live}
 use Rattle.nub_rule.proofs.Members.{member_steps}
 use Rattle.nub_rule.proofs.Frames.{lives-frame, lives-stay, other, alert-seen-stays, alert-seen-frame}
 use Rattle.nub_rule.proofs.Lines.{lines-same}
@@ -88,6 +89,7 @@ module _ {T H W : Type 0} (l : Layout) (traced : Bool) (w : W) (begin : W → �
       member_steps l traced w begin holds slots id (bit_at o) (λ x. either (eqb x 0) 1 x) v me.1
       (λ r q ds. ((r ≡ 0) × Learns e n p (λ z. record (told p z e) { failed = without o p.failed; turns = without o p.turns; cleared = p.cleared }) q × (ds ≡ me.1)) ⊎ ((r ≢ 0) × (q ≡ record p { failed = o ∷ p.failed; turns = without o p.turns }) × (ds ≡ me.1)))
       (try_p_tells (p_action alertable) (step slots (bit_at o) 0 1 none) me) kind
+      (λ r q ds t. idle-live p q v.child may.0 (⊎_elim (λ (u : (r ≡ 0) × Learns e n p (λ z. record (told p z e) { failed = without o p.failed; turns = without o p.turns; cleared = p.cleared }) q × (ds ≡ me.1)). ap (λ (z : Part T H). z.life) u.1.2) (λ (u : (r ≢ 0) × (q ≡ record p { failed = o ∷ p.failed; turns = without o p.turns }) × (ds ≡ me.1)). ap (λ (z : Part T H). z.life) u.1) t))
       (λ r q ds world t k is. let same : s ≡ k = omega arith in subst (λ (k : ℕ).
       (r ≡ 0 → (between : List Event) × Grows n p between (event n (p_action alertable k)) × Becomes me (record (told p (p.seen ++ between) (event n (p_action alertable k))) { failed = without (sem_object k) p.failed; turns = without (sem_object k) p.turns }) (with_part v q, ds))
       × (r ≢ 0 → Becomes me (record p { failed = sem_object k ∷ p.failed; turns = without (sem_object k) p.turns }) (with_part v q, ds))) same (⊎_elim
@@ -123,6 +125,7 @@ module _ {T H W : Type 0} (l : Layout) (traced : Bool) (w : W) (begin : W → �
   clear_sem_at slots id s me low named kind out apart may = let v = me.0 in let n = v.number in let p = v.part in let o : ℕ = sem_object s in let e = v_event n s in
       member_steps l traced w begin holds slots id (bit_at o) (λ _. 0) v me.1
       (λ r q ds. ((r ≡ 0) ⊎ (r ≡ 1)) × Learns e n p (λ z. record (told p z e) { failed = p.failed; turns = p.turns; cleared = o ∷ p.cleared }) q × (ds ≡ me.1)) (clear_sem_tells (step slots (bit_at o) 0 0 none) me) kind
+      (λ r q ds t. idle-live p q v.child may.0 (ap (λ (z : Part T H). z.life) t.1.2))
       (λ r q ds world t k is. let same : s ≡ k = omega arith in subst (λ (k : ℕ). ((r ≡ 0) ⊎ (r ≡ 1)) × (between : List Event) × Grows n p between (v_event n k) × Becomes me (record (told p (p.seen ++ between) (v_event n k)) { cleared = sem_object k ∷ p.cleared }) (with_part v q, ds)) same
       (t.0, t.1.0, t.1.1, λ i. (with_part v (t.1.2 i), t.2 i)))
       (λ words homes all c at small.

@@ -9,6 +9,7 @@ use Rattle.larch_actions.specs.Actions.{put}
 use Rattle.larch_actions.specs.Sets.{mem, without}
 use Rattle.atomic_table.specs.Table.{Me, step, Allows, keeps, takes, gives, put_back, rest}
 use Rattle.atomic_table.proofs.Lists.{set_else}
+use Rattle.larch_actions.specs.declared.event.Life.TheVariants.{Live}
 use Rattle.nub_rule.specs.declared.rule.Slot.{Slot}
 use Rattle.nub_rule.specs.declared.rule.Slot.TheVariants.{Queue}
 use Rattle.nub_rule.specs.declared.view.Part.{Part}
@@ -20,6 +21,7 @@ use Rattle.nub_rule.specs.Places.{most_threads, bit_at, spin_at, queue_at, value
 use Rattle.nub_rule.specs.Plays.{with_part, take_spin_tells, give_spin_tells}
 use Rattle.nub_rule.specs.Rule.{IsKept}
 use Rattle.nub_rule.proofs.Each.{at_within}
+use Rattle.nub_rule.proofs.Idle.{idle-live, idle-spun}
 use Rattle.nub_rule.proofs.Members.{Steps, member_steps}
 use Rattle.nub_rule.proofs.Frames.{lives-stay, pens-frame, other, bits-stay, ready-stay, shown-stay, pen-stay, alert-seen-stays}
 use Rattle.nub_rule.proofs.Lines.{no_object, not_true, stand_none, distinct-behind, mem-behind, lines-same}
@@ -82,9 +84,10 @@ module _ {T H W : Type 0} (l : Layout) (traced : Bool) (w : W) (begin : W → �
       ))
       (λ miss. (p, keeps, tt, subst (λ b. Core l traced w holds (set words (spin_at o) (either b 1 r)) homes (set all n p)) (sym (ne_eqb r 0 miss)) (idle l traced w holds words homes all (spin_at o) n p at c), inr (taken-by r (c.spinner o) (s.spin o low) miss, refl, refl)))
 
-  take_spin_at : (slots id o : ℕ) (me : Me (Slot T) (View T H W)) → o < 192 → me.0.kind ≡ Member → me.0.part.spin ≡ None → Allows (IsKept l traced w begin holds) slots id me (spin_at o) (λ x. either (eqb x 0) 1 x) (take_spin_tells (step slots (spin_at o) 0 1 none) me)
-  take_spin_at slots id o me low kind idle_there = let v = me.0 in let n = v.number in let p = v.part in member_steps l traced w begin holds slots id (spin_at o) (λ x. either (eqb x 0) 1 x) v me.1
+  take_spin_at : (slots id o : ℕ) (me : Me (Slot T) (View T H W)) → o < 192 → me.0.kind ≡ Member → me.0.part.life ≡ Live → me.0.part.spin ≡ None → Allows (IsKept l traced w begin holds) slots id me (spin_at o) (λ x. either (eqb x 0) 1 x) (take_spin_tells (step slots (spin_at o) 0 1 none) me)
+  take_spin_at slots id o me low kind live idle_there = let v = me.0 in let n = v.number in let p = v.part in member_steps l traced w begin holds slots id (spin_at o) (λ x. either (eqb x 0) 1 x) v me.1
       (λ r q ds. ((r ≡ 0) × Spun n o p me.1 q ds) ⊎ ((r ≡ 1) × (q ≡ p) × (ds ≡ me.1))) (take_spin_tells (step slots (spin_at o) 0 1 none) me) kind
+      (λ r q ds t. idle-live p q v.child live (⊎_elim (λ (u : (r ≡ 0) × Spun n o p me.1 q ds). ap (λ (z : Part T H). z.life) u.1.5) (λ (u : (r ≡ 1) × (q ≡ p) × (ds ≡ me.1)). ap (λ (z : Part T H). z.life) u.1) t))
       (λ r q ds world t. ⊎_elim
       (λ (u : (r ≡ 0) × Spun n o p me.1 q ds). (
         (λ k is hit. let e : o ≡ k = omega arith in
@@ -95,13 +98,14 @@ module _ {T H W : Type 0} (l : Layout) (traced : Bool) (w : W) (begin : W → �
       (spins_at n o p me.1 low idle_there)
 
   -- the same at a word that is this place
-  pub take_spin_keeps : (slots id o : ℕ) (me : Me (Slot T) (View T H W)) (i : ℕ) → i ≡ spin_at o → o < 192 → me.0.kind ≡ Member → me.0.part.spin ≡ None → Allows (IsKept l traced w begin holds) slots id me i (λ x. either (eqb x 0) 1 x) (take_spin_tells (step slots i 0 1 none) me)
-  take_spin_keeps slots id o me i word low kind idle_there = subst (λ (i : ℕ). Allows (IsKept l traced w begin holds) slots id me i (λ x. either (eqb x 0) 1 x) (take_spin_tells (step slots i 0 1 none) me)) (sym word) (take_spin_at slots id o me low kind idle_there)
+  pub take_spin_keeps : (slots id o : ℕ) (me : Me (Slot T) (View T H W)) (i : ℕ) → i ≡ spin_at o → o < 192 → me.0.kind ≡ Member → me.0.part.life ≡ Live → me.0.part.spin ≡ None → Allows (IsKept l traced w begin holds) slots id me i (λ x. either (eqb x 0) 1 x) (take_spin_tells (step slots i 0 1 none) me)
+  take_spin_keeps slots id o me i word low kind live idle_there = subst (λ (i : ℕ). Allows (IsKept l traced w begin holds) slots id me i (λ x. either (eqb x 0) 1 x) (take_spin_tells (step slots i 0 1 none) me)) (sym word) (take_spin_at slots id o me low kind live idle_there)
 
   give_spin_at : (slots id o : ℕ) (me : Me (Slot T) (View T H W)) → o < 192 → me.0.kind ≡ Member → me.0.part.spin ≡ Some o → me.0.part.owed ≡ [] → me.0.part.left ≡ me.0.part.queue → me.1 ≡ (queue_at o, Queue (queue_of me.0.part.queue)) ∷ rest me.1
       → Allows (IsKept l traced w begin holds) slots id me (spin_at o) (λ _. 0) (give_spin_tells (step slots (spin_at o) 0 0 none) me)
   give_spin_at slots id o me low kind here none_owed even first = let v = me.0 in let n = v.number in let p = v.part in let q : Part T H = record p { spin = None; queue = []; left = [] } in
       member_steps l traced w begin holds slots id (spin_at o) (λ _. 0) v me.1 (λ r s ds. (r ≡ 1) × (s ≡ q) × (ds ≡ rest me.1)) (give_spin_tells (step slots (spin_at o) 0 0 none) me) kind
+      (λ r s ds t. idle-spun p s v.child o here (ap (λ (z : Part T H). z.life) t.1))
       (λ r s ds world t. (t.0, λ i. (with_part v (t.1 i), t.2 i)))
       (λ words homes all c at small.
       let s = c.spins in

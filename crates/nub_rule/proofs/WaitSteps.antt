@@ -25,6 +25,7 @@ use Rattle.nub_rule.specs.Places.{bit_at, value_at, queue_at}
 use Rattle.nub_rule.specs.Plays.{Becomes, MayFree, WonQuietly, with_part, opened, quieted, clear_bit_in_wait_tells, take_bit_quiet_tells}
 use Rattle.nub_rule.specs.Rule.{FitsAs, IsKept}
 use Rattle.nub_rule.proofs.Each.{at_within, at_below, each-set, put-at, put-else}
+use Rattle.nub_rule.proofs.Idle.{idle-waits}
 use Rattle.nub_rule.proofs.Members.{Steps, member_steps}
 use Rattle.nub_rule.proofs.Frames.{lives-frame, lives-stay, lived-frame, SameShown, other, sizes-frame, told-frame, spins-frame, lines-frame, semaphores-frame, alerts-frame, pens-frame, ready-stay, spins-stay, shown-stay, pen-stay, alert-seen-stays}
 use Rattle.nub_rule.proofs.SpinSteps.{nobody-by, one-by}
@@ -130,6 +131,7 @@ module _ {T H W : Type 0} (l : Layout) (traced : Bool) (w : W) (begin : W → �
             let world : v.world ≡ Some w = (subst (FitsAs l.version l.threads r.given w begin r.all r.seat_of id v) kind (r.fits id v at)).world in
             let next = λ (s : H). after w m n x y s in
             member_steps l traced w begin holds slots id (bit_at m) (λ _. 0) v me.1 (λ r q ds. (r ≡ 1) × Closes next m p me.1 q ds) (clear_bit_in_wait_tells after (step slots (bit_at m) 0 0 none) me) kind
+            (λ r q ds t. idle-waits p q v.child b before (ap (λ (z : Part T H). z.life) t.1.2))
             (λ r q ds world' t' k is. let t = t'.1 in let same : m ≡ k = omega arith in
             subst (λ (k : ℕ). (r ≡ 1) × (u : Opt H) × ((let z : Me (Slot T) (View T H W) = (with_part v q, ds) in z) ≡ (with_part v (record p { held = set p.held k None; share = u; wait = opened p.wait; cleared = k ∷ p.cleared }), rest me.1))
             × ((w : W) (s : H) (x y : T) → v.world ≡ Some w → p.share ≡ Some s → Got p k x → me.1 ≡ (value_at k, Value (Some y)) ∷ rest me.1 → u ≡ Some (after w k n x y s))) same (
@@ -195,6 +197,7 @@ module _ {T H W : Type 0} (l : Layout) (traced : Bool) (w : W) (begin : W → �
         here : Allows (IsKept l traced w begin holds) slots id me (bit_at m) (λ x. either (eqb x 0) 1 x) (take_bit_quiet_tells fits (step slots (bit_at m) 0 1 none) me)
         here = let v = me.0 in let n = v.number in let p = v.part in member_steps l traced w begin holds slots id (bit_at m) (λ x. either (eqb x 0) 1 x) v me.1
             (λ r q ds. ((r ≡ 0) × TakesQuietly fits m n p me.1 q ds) ⊎ ((r ≢ 0) × (q ≡ loser p m) × (ds ≡ me.1))) (take_bit_quiet_tells fits (step slots (bit_at m) 0 1 none) me) kind
+            (λ r q ds t. idle-waits p q v.child b before (⊎_elim (λ (u : (r ≡ 0) × TakesQuietly fits m n p me.1 q ds). ap (λ (z : Part T H). z.life) u.1.4) (λ (u : (r ≢ 0) × (q ≡ loser p m) × (ds ≡ me.1)). ap (λ (z : Part T H). z.life) u.1) t))
             (λ r q ds world t k is. let same : m ≡ k = omega arith in subst (λ (k : ℕ). (r ≡ 0 → WonQuietly fits k me (with_part v q, ds)) × (r ≢ 0 → Becomes me (loser p k) (with_part v q, ds))) same (⊎_elim
             (λ (u : (r ≡ 0) × TakesQuietly fits m n p me.1 q ds). (
               (λ _. let x = u.1 in (x.0, (λ w' s is has. let e : Some w ≡ Some w' = sym world ∙ is in let f : w ≡ w' = cc in subst (λ (z : W). fits z m x.0 n s) f (x.1 s has)), x.2, x.3, λ i. (with_part v (x.4 i), x.5 i))),

@@ -13,3 +13,4 @@ pub mod Ends
 pub mod Forks
 pub mod PackageRule
 pub mod Stored
+pub mod Consequences

@@ -1,10 +1,11 @@
 -- THE RULE, in public words: what is true between any two steps of the words, the slots at home and
 -- the views of the threads. The law `laws::the_rule_says` proves it of every state that meets the
 -- invariant.
-use Rattle.std.specs.Prelude.{Bool, Option as Opt, true, false, ◌≡◌, ◌≢◌, ◌↔◌, ◌⊎◌, ℕ, ◌+◌, ◌<◌, ◌≤◌, List, [], ◌++◌, length, slice_index, slice_set, Some, None}
+use Rattle.std.specs.Prelude.{Bool, Option as Opt, true, false, ◌≡◌, ◌≢◌, ◌↔◌, ◌⊎◌, ℕ, ◌+◌, ◌<◌, ◌≤◌, List, [], ◌++◌, length, slice_index, Some, None}
 use mathlib.Core.Option.{Option, some}
 use lib.ListN.{get_elem?}
 use Rattle.larch_actions.specs.declared.event.Layout.{Layout}
+use Rattle.larch_actions.specs.declared.event.Life.TheVariants.{Live}
 use Rattle.larch_actions.specs.declared.event.Version.{Version}
 use Rattle.larch_actions.specs.declared.event.Event.{Event}
 use Rattle.larch_actions.specs.declared.event.Pending.TheVariants.{Nothing}
@@ -26,7 +27,7 @@ use Rattle.nub_rule.specs.declared.view.WaitBit.TheVariants.{Closing, Quiet}
 use Rattle.nub_rule.specs.Items.{Each, Distinct, queue_of, places_from}
 use Rattle.nub_rule.specs.Begun.{raisers}
 use Rattle.nub_rule.specs.Owed.{HasTurn, IsAsleep, MustLook, SomebodyMustLook}
-use Rattle.nub_rule.specs.Parts.{Got, Has, IsFound, counts_in, first_part, newborn, number_of, pending_of, unborn, waits_on}
+use Rattle.nub_rule.specs.Parts.{Got, Has, HasNothing, IsFound, counts_in, first_part, newborn, number_of, pending_of, unborn, waits_on}
 use Rattle.nub_rule.specs.Places.{alert_at, bit_at, cond_object, count_at, length_at, life_at, most_threads, number_at, pen_at, queue_at, ready_at, sem_object, spin_at, value_at, waits_at}
 use Rattle.nub_rule.specs.Rule.{IsKept, IsWith}
 
@@ -189,11 +190,12 @@ module _ {T H : Type 0} where
   abbrev pub AlertSeen : List ℕ → List (Part T H) → Type 0
   AlertSeen words views = Each (λ n p. p.alerted ≡ true → slice_index words (alert_at n) ≡ 1) views
 
-  -- LIVES: a life word is 0 if its thread wasn't forked, 1 if it lives and 2 if it has ended, as
-  -- the thread's view says
+  -- LIVES: a life word is 0 where its thread wasn't forked, 1 where it lives and 2 where it has ended, as the thread's view says. Who doesn't live
+  -- has nothing: no mutex, no spin word, no place in a queue or a condition, and no look, wake or begun wait is up to it
   pub record LifeWords (words : List ℕ) (views : List (Part T H)) (state : Spec) : Type 0 where
     pub word : Each (λ n p. slice_index words (life_at n) ≡ number_of p.life) views
     pub life : Each (λ n p. state.life n ≡ p.life) views
+    pub idle : Each (λ n p. p.life ≢ Live → HasNothing p) views
 
   -- COUNTS READ: a count that a view has read is at most the count now, and the thread with the
   -- condition's spin word knows the count
@@ -261,6 +263,21 @@ module _ {T H : Type 0} where
     pub values_and_shares : ValuesAndShares l.mutexes holds homes views values shares
     pub numbering : Numbering traced log words views
 
+  -- a view without a step of its own: its own events are the same, and what it has seen has stayed or grown
+  pub record HasOnlyLearnt (before after : Part T H) : Type 0 where
+    pub mine : after.mine ≡ before.mine
+    pub seen : StartsWith after.seen before.seen
+
+  -- the views before and after a step of the thread n, whose view was p and is q: its own events grew by these, and what it has seen grew. The
+  -- others have made no event, though their views may change, as that of a thread that it forks
+  pub record IsStepOf (n : ℕ) (p q : Part T H) (es : List Event) (views views' : List (Part T H)) : Type 0 where
+    pub before : get_elem? views n ≡ some p
+    pub after : get_elem? views' n ≡ some q
+    pub seen : StartsWith q.seen p.seen
+    pub mine : q.mine ≡ p.mine ++ es
+    pub count : length views' ≡ length views
+    pub others : Each (λ k o. k ≢ n → ViewIs views k (λ u. HasOnlyLearnt u o)) views'
+
 module _ {T H W : Type 0} where
   -- what a thread says of a child: it hasn't begun if its right was taken in, and lives and has
   -- done nothing if it was forked
@@ -280,6 +297,8 @@ module _ {T H W : Type 0} where
     pub back : (id : ℕ) (v : View T H W) → get_elem? seats id ≡ some v → v.kind ≡ Collector
         → Each (λ n p. get_elem? views n ≡ some p) v.back
     pub child : (id : ℕ) (v : View T H W) → get_elem? seats id ≡ some v → v.kind ≡ Member → ChildIs version w begin views v.child
+    -- whoever doesn't live begins no other
+    pub childless : (id : ℕ) (v : View T H W) → get_elem? seats id ≡ some v → v.kind ≡ Member → v.part.life ≢ Live → v.child ≡ Childless
     pub to_come : (id : ℕ) (v : View T H W) → get_elem? seats id ≡ some v → v.kind ≡ Root → (n : ℕ) → v.next ≤ n → n < threads
         → get_elem? views n ≡ some (first_part version n (Some (begin w n)))
     pub each : (n : ℕ) → n < threads → (id : ℕ) × (v : View T H W) × (get_elem? seats id ≡ some v) × IsWith v v.kind n
@@ -301,12 +320,10 @@ module _ {T H W : Type 0} where
       → (r : PackageRule l traced (holds w) words homes views) (r' : PackageRule l traced (holds w) words' homes' views) → (r'.log ≡ r.log)
       × (r'.state ≡ r.state)
 
-  -- if one thread's view changed and its own events grew by these, the history grew by them, and
-  -- they lead from the state before to the state after. With one event this is that event's action;
-  -- with none the history and the state stay
+  -- after a step by which the own events of its thread grew by these, the history has grown by them, and they lead from the state before to the state
+  -- after. With one event this is that event's action; with none the history and the state are what they were
   abbrev pub EachStep : (W → List T → List H → Type 0) → Type 0
   EachStep holds = (l : Layout) (traced : Bool) (w : W) (words words' : List ℕ) (homes homes' : List (Option (Slot T)))
-      (views : List (Part T H)) (n : ℕ) (p q : Part T H) (es : List Event)
-      → get_elem? views n ≡ some p → StartsWith q.seen p.seen → q.mine ≡ p.mine ++ es
-      → (r : PackageRule l traced (holds w) words homes views) (r' : PackageRule l traced (holds w) words' homes' (slice_set views n q))
+      (views views' : List (Part T H)) (n : ℕ) (p q : Part T H) (es : List Event) → IsStepOf n p q es views views'
+      → (r : PackageRule l traced (holds w) words homes views) (r' : PackageRule l traced (holds w) words' homes' views')
       → (r'.log ≡ r.log ++ es) × Leads r.state es r'.state

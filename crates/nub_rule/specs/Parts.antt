@@ -184,3 +184,18 @@ module _ {T H : Type 0} where
 
   abbrev pub newborn : Version → List Event → Opt H → Part T H
   newborn version = fresh version Live
+
+  -- the thread holds no mutex and no spin word, owes nobody, waits and stands nowhere, and is bound to no look, Signal or begun wait
+  pub record HasNothing (p : Part T H) : Type 0 where
+    pub none : (m : ℕ) (x : T) → ¬ Got p m x
+    pub spin : p.spin ≡ None
+    pub queue : p.queue ≡ []
+    pub owed : p.owed ≡ []
+    pub left : p.left ≡ []
+    pub wait : p.wait ≡ None
+    pub stand : p.stand ≡ None
+    pub turns : p.turns ≡ []
+    pub cleared : p.cleared ≡ []
+    pub looked : p.looked ≡ []
+    pub calling : p.calling ≡ None
+    pub raised : p.raised ≡ None

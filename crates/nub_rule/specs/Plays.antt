@@ -417,11 +417,11 @@ module _ {T H W : Type 0} where
   leave_sem_queue_tells st me r me' = let p = me.0.part in let n = me.0.number in
       Becomes me (record p { queue = less n p.queue; left = less n p.left; stand = None; turns = left_turns p.stand p.turns }) me'
 
-  -- the thread t, whose right was taken in, was forked
+  -- the thread t, whose beginning is the own right, was forked: it is another than this one
   abbrev pub fork_life_tells : Step (Slot T) → Sat T H W → ℕ → Sat T H W → Type 0
   fork_life_tells st me r me' = let v = me.0 in let p = v.part in
       (t : ℕ) → t < most_threads → st.word ≡ life_at t → let e = fork_event v.number t in
-      (between : List Event) × Grows v.number p between e
+      (t ≢ v.number) × (between : List Event) × Grows v.number p between e
       × (me' ≡ (record v { part = told p (p.seen ++ between) e; child = Forked t ((p.seen ++ between) ++ e ∷ []) }, me.1))
 
   -- the thread ended

@@ -3,6 +3,7 @@ use Rattle.std.specs.Prelude.{Bool, ◌+◌, ◌++◌, None, Option as Opt, ◌�
 use mathlib.Core.Option.{some}
 use lib.ListN.{get_elem?}
 use Rattle.larch_actions.specs.declared.event.Layout.{Layout}
+use Rattle.larch_actions.specs.declared.event.Life.TheVariants.{Live}
 use Rattle.larch_actions.specs.declared.event.Version.{Version}
 use Rattle.atomic_table.specs.Table.{State}
 use Rattle.nub_rule.specs.declared.rule.Slot.{Slot}
@@ -12,7 +13,7 @@ use Rattle.nub_rule.specs.declared.view.Child.TheVariants.{No, May, Forked}
 use Rattle.nub_rule.specs.declared.view.View.{View}
 use Rattle.nub_rule.specs.declared.view.Kind.{Kind}
 use Rattle.nub_rule.specs.declared.view.Kind.TheVariants.{Root, Member, Collector, Spent}
-use Rattle.nub_rule.specs.Parts.{first_part, newborn, no_part, unborn}
+use Rattle.nub_rule.specs.Parts.{HasNothing, first_part, newborn, no_part, unborn}
 use Rattle.nub_rule.specs.Items.{Core}
 
 -- a thread's first share, if the world is known
@@ -25,6 +26,11 @@ abbrev pub IsOfChild : Child → ℕ → Type 0
 IsOfChild No n = ⊥
 IsOfChild (May t) n = t ≡ n
 IsOfChild (Forked t seen) n = t ≡ n
+
+module _ {T H : Type 0} where
+  -- a thread that hasn't begun, or has ended, has nothing and begins no other
+  abbrev pub HasNothingUnlessLive : Part T H → Child → Type 0
+  HasNothingUnlessLive p child = p.life ≢ Live → HasNothing p × (child ≡ No)
 
 module _ {T H W : Type 0} where
   module _ (version : Version) (threads given : ℕ) (w : W) (begin : W → ℕ → H) (all : List (Part T H)) (seat_of : ℕ → ℕ) (id : ℕ) where
@@ -53,12 +59,14 @@ module _ {T H W : Type 0} where
       pub sits : seat_of v.number ≡ id
       pub own : get_elem? all v.number ≡ some v.part
       pub child : ChildFits v v.child
+      pub idle : HasNothingUnlessLive v.part v.child
 
     -- it takes the threads back, in order of their numbers, and has them from then on
     pub record IsCollector (v : View T H W) : Type 0 where
       pub world : v.world ≡ Some w
       pub few : length v.back ≤ given
       pub came_back : (n : ℕ) (p : Part T H) → get_elem? v.back n ≡ some p → (seat_of n ≡ id) × (get_elem? all n ≡ some p)
+          × HasNothingUnlessLive p No
 
     -- what the seat id is for
     abbrev pub FitsAs : View T H W → Kind → Type 0

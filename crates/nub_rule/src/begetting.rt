@@ -2,6 +2,7 @@
 //! it out.
 ghost use Rattle.std.specs.Prelude.{◌≡◌, ◌<◌, ◌≤◌, List, [], None};
 ghost use Rattle.larch_actions.specs.declared.event.Event.{Event};
+ghost use Rattle.larch_actions.specs.declared.event.Life.TheVariants.{Live};
 ghost use Rattle.nub_rule.specs.declared.view.Child.TheVariants.{No, May, Forked};
 ghost use Rattle.nub_rule.specs.Ends.{newborn_known};
 ghost use Rattle.nub_rule.specs.Forks.{IsUnborn};
@@ -39,6 +40,7 @@ impl Model for Body {
 pub fn take_right<U: Uses>(p: &Package<U>, me: &mut Thread<U>, child: Thread<U>) -> Body
     requires of { me.old.table_id ≡ p.now.table_id }
     requires from { child.table_id ≡ p.now.table_id }
+    requires live { me.old.life ≡ Live }
     requires free { me.old.child ≡ No }
     requires unborn { IsUnborn U.begin child }
     ensures body { result ≡ child.number }

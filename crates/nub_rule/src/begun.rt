@@ -2,6 +2,7 @@
 //! reads the count by which it enters the condition, and lowers it once it has left. So a Signal or
 //! Broadcast that finds 0 finds no thread in the condition.
 ghost use Rattle.std.specs.Prelude.{◌≡◌, ◌≢◌, ◌<◌, ℕ, [], Some, None};
+ghost use Rattle.larch_actions.specs.declared.event.Life.TheVariants.{Live};
 ghost use Rattle.nub_rule.specs.declared.view.Wait.{Wait};
 ghost use Rattle.nub_rule.specs.Known.{Makes, learnt};
 ghost use Rattle.nub_rule.specs.Parts.{MayTell, made};
@@ -19,6 +20,7 @@ use larch_actions::CondId;
 pub fn raise_waits<U: Uses>(p: &Package<U>, me: &mut Thread<U>, c: CondId) -> u64
     requires of { me.old.table_id ≡ p.now.table_id }
     requires named { c.0 < p.now.layout.conditions }
+    requires live { me.old.life ≡ Live }
     requires none { me.old.raised ≡ None }
     ensures { me.new ≡ record me.old { raised = Some c.0 } }
 {

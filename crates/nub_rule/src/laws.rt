@@ -1,4 +1,5 @@
 //! The rule, in public words.
+ghost use Rattle.nub_rule.specs.Consequences.{EntersToSignal, Excludes, ForkChangesTwo};
 ghost use Rattle.nub_rule.specs.PackageRule.{EachStep, OneHistory, RuleHolds};
 
 use crate::uses::Uses;
@@ -10,4 +11,12 @@ pub fn the_rule_says<U: Uses>()
     ensures items { RuleHolds U.begin U.holds }
     ensures one_history { OneHistory U.holds }
     ensures each_step { EachStep U.holds }
+{}
+
+/// What the rule excludes: a mutex with two owners, a thread that two others owe its wake, a begun wait that no Signal sees, a wake that
+/// is up to a thread that has ended, anything left over once every call is over, and a fork that changes one view alone.
+pub fn the_rule_excludes<U: Uses>()
+    ensures follows { Excludes U.holds }
+    ensures fork { ForkChangesTwo U.holds }
+    ensures signal { EntersToSignal U.Value U.Share U.World }
 {}

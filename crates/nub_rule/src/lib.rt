@@ -59,5 +59,5 @@ pub use ready::{clear_ready, park, read_ready, set_ready};
 pub use sem::{clear_sem, try_p};
 pub use spin::{give_spin, take_spin};
 pub use uses::{Change, NoChange, Uses};
-pub use waking::{note_mutex, note_woken, owes_unparking, unpark, unpark_noted};
+pub use waking::{note_mutex, note_woken, owes_unparking, unpark, unpark_all, unpark_noted};
 pub use whole::{Remains, close_package, open_package};

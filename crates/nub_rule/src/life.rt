@@ -3,9 +3,9 @@
 ghost use Rattle.std.specs.Prelude.{◌≡◌, ◌≢◌, ◌<◌, None};
 ghost use Rattle.larch_actions.specs.declared.event.Life.TheVariants.{Ended};
 ghost use Rattle.larch_actions.specs.declared.event.Version.TheVariants.{Two};
-ghost use Rattle.nub_rule.specs.declared.view.Child.TheVariants.{May, Forked};
-ghost use Rattle.nub_rule.specs.Known.{HasNone, Makes, learnt};
-ghost use Rattle.nub_rule.specs.Parts.{MayTell, made};
+ghost use Rattle.nub_rule.specs.declared.view.Child.TheVariants.{No, May, Forked};
+ghost use Rattle.nub_rule.specs.Known.{Makes, learnt, part_of};
+ghost use Rattle.nub_rule.specs.Parts.{HasNothing, MayTell, made};
 ghost use Rattle.nub_rule.specs.Places.{most_threads};
 ghost use Rattle.nub_rule.specs.Plays.{end_event, fork_event, join_event};
 
@@ -14,7 +14,6 @@ use crate::places::life_word;
 use crate::plays::{EndLife, ForkLife, ReadLife};
 use crate::stepping::{load, store};
 use crate::uses::Uses;
-use crate::waking::unpark_all;
 use larch_actions::ThreadId;
 
 /// Forks the thread whose right was taken in. From then on it lives, with the history that ends
@@ -25,27 +24,25 @@ pub fn fork_life<U: Uses>(p: &Package<U>, me: &mut Thread<U>, who: ThreadId)
     requires few { who.0 < most_threads }
     requires outside { me.old.wait ≡ None }
     requires pen { MayTell p.now.traced me.old.life me.old.pen }
+    ensures apart { who.0 ≢ me.old.number }
     ensures event { Makes (fork_event me.old.number who.0) me.old me.new }
     ensures forked { me.new ≡ record (learnt me.old me.new) { pen = made me.old.pen; child = Forked who.0 me.new.seen } }
 {
     store::<ForkLife, U>(&p.table, &mut me.seat, life_word(who.0), 1);
 }
 
-/// Ends the thread, which holds no mutex, and unparks all others, since any of them may wait for
-/// this end.
+/// Ends the thread, which holds no mutex, has no call open and is bound to nothing: nobody may count on a thread that has ended. One may wait
+/// for this end, so all others are to be unparked after it.
 pub fn end_life<U: Uses>(p: &Package<U>, me: &mut Thread<U>)
     requires of { me.old.table_id ≡ p.now.table_id }
     requires version { p.now.layout.version ≡ Two }
-    requires holds { HasNone me.old }
-    requires outside { me.old.wait ≡ None }
+    requires nothing { HasNothing (part_of me.old) }
+    requires childless { me.old.child ≡ No }
     requires pen { MayTell p.now.traced me.old.life me.old.pen }
     ensures event { Makes (end_event me.old.number) me.old me.new }
     ensures ended { me.new ≡ record (learnt me.old me.new) { pen = made me.old.pen; life = Ended } }
 {
-    // The word first, then the unparking: a thread that wakes up reads the word, and would park
-    // again if it weren't set yet.
     store::<EndLife, U>(&p.table, &mut me.seat, life_word(me.number), 2);
-    unpark_all(p);
 }
 
 /// Reads the life word of the thread `who`: 0 if it wasn't forked, 1 if it lives, 2 if it has

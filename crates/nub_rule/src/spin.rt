@@ -1,5 +1,6 @@
 //! The steps on a spin word. Only the thread that has it changes the queue of the object.
 ghost use Rattle.std.specs.Prelude.{◌≡◌, ◌≢◌, ◌<◌, [], length, Some, None, true};
+ghost use Rattle.larch_actions.specs.declared.event.Life.TheVariants.{Live};
 ghost use Rattle.larch_actions.specs.Sets.{mem, without};
 ghost use Rattle.nub_rule.specs.Items.{Small};
 ghost use Rattle.nub_rule.specs.Objects.{object_of, HasObject};
@@ -19,6 +20,7 @@ use crate::uses::Uses;
 pub fn take_spin<U: Uses>(p: &Package<U>, me: &mut Thread<U>, at: Object, why: Why) -> u64
     requires of { me.old.table_id ≡ p.now.table_id }
     requires named { HasObject p.now.layout at }
+    requires live { me.old.life ≡ Live }
     requires outside { me.old.spin ≡ None }
     requires reason { HasReason at me.old why }
     ensures lost { result ≢ 0 → (result ≡ 1) × (me.new ≡ me.old) }

@@ -37,7 +37,7 @@ pub fn unpark<U: Uses>(p: &Package<U>, t: ThreadId) {
 }
 
 /// Unparks every thread.
-pub(crate) fn unpark_all<U: Uses>(p: &Package<U>) {
+pub fn unpark_all<U: Uses>(p: &Package<U>) {
     for waker in &p.unparkers {
         waker.unparker.unpark();
     }

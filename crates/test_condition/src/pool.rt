@@ -118,6 +118,32 @@ fn a_stop_ends_the_pool(rt: HostRuntime) -> Result<(), Fail> {
     Ok(())
 }
 
+// How often all these jobs together were called.
+fn calls_of(jobs: &[Count]) -> u64 {
+    let mut calls: u64 = 0;
+    for job in jobs {
+        calls = calls.saturating_add(job.calls);
+    }
+    calls
+}
+
+// How many of a thousand jobs one worker calls, where the first gives Stop.
+fn called_by_one<R: Threads + Wait + Sync>(rt: &R, alloc: Global) -> Result<u64, AllocError> {
+    let jobs = counts(alloc, 1000, 0)?;
+    if jobs.len() > 1000 {
+        return Ok(0);
+    }
+    let (_end, back) = run_jobs(rt, alloc, 1, jobs);
+    Ok(calls_of(back.as_slice()))
+}
+
+#[test]
+fn nothing_is_called_after_a_stop(rt: HostRuntime) -> Result<(), Fail> {
+    let calls = called_by_one(&rt, rt.alloc())?;
+    assert!(rt; calls == 1);
+    Ok(())
+}
+
 // The most turns that a job waits for another.
 const MOST_TURNS: u64 = 50_000_000;
 

@@ -1,8 +1,8 @@
 //! The texts of public values.
 use alert_wait::Outcome;
 use bounded_buffer::{Over, PutEnd, TakeEnd};
-use command_jobs::JobsFault;
 use command_line::WordsFault;
+use exact_text::TextFault;
 use firefly_outside::{Failed, SinkFault, Text, TreeError};
 use index_find::QueryFault;
 use index_text::IndexFault;
@@ -14,7 +14,7 @@ use std::alloc::AllocError;
 use std::fmt::Display;
 use std::test::Fail;
 use thread_crew::NotRun;
-use trace_core::TextFault;
+use trace_core::TextFault as TraceFault;
 use walker::WalkAnswer;
 use word_index::Piece;
 
@@ -76,9 +76,9 @@ fn faults_of_sources_sinks_and_trees(rt: HostRuntime) -> Result<(), Fail> {
 #[test]
 fn faults_of_traces_and_scripts(rt: HostRuntime) -> Result<(), Fail> {
     let traces = [
-        (TextFault::BadLine(3), "bad line 3"),
-        (TextFault::TooLong, "input too long"),
-        (TextFault::Read, "input could not be read"),
+        (TraceFault::BadLine(3), "bad line 3"),
+        (TraceFault::TooLong, "input too long"),
+        (TraceFault::Read, "input could not be read"),
     ];
     let scripts = [
         (ScriptFault::Memory, "out of memory"),
@@ -128,13 +128,13 @@ fn faults_of_index_texts_queries_and_words(rt: HostRuntime) -> Result<(), Fail> 
 #[test]
 fn faults_of_jobs(rt: HostRuntime) -> Result<(), Fail> {
     let texts = [
-        (JobsFault::Memory, "out of memory"),
+        (TextFault::Memory, "out of memory"),
         (
-            JobsFault::BadLine(18446744073709551615),
+            TextFault::BadLine(18446744073709551615),
             "bad line 18446744073709551615",
         ),
-        (JobsFault::TooLong, "input too long"),
-        (JobsFault::Read, "input could not be read"),
+        (TextFault::TooLong, "input too long"),
+        (TextFault::Read, "input could not be read"),
     ];
     let pools = [
         (PoolEnd::Done(Vec::new(rt.alloc())), "all jobs are done"),

@@ -8,10 +8,10 @@
 
 /* A growing array. */
 #define LIST(type) struct { type *at; int64_t n, room; }
-#define ADD(list, ...)                                                                                                                             \
-    do {                                                                                                                                           \
-        if ((list).n == (list).room) (list).at = grown((list).at, &(list).room, sizeof *(list).at);                                                \
-        (list).at[(list).n++] = __VA_ARGS__;                                                                                                       \
+#define ADD(list, ...) \
+    do { \
+        if ((list).n == (list).room) (list).at = grown((list).at, &(list).room, sizeof *(list).at); \
+        (list).at[(list).n++] = __VA_ARGS__; \
     } while (0)
 void *grown(void *at, int64_t *room, size_t size);
 void *clean(size_t n, size_t size); /* zeroed, never NULL */
@@ -64,14 +64,14 @@ bool is_code(const string *modules, uint64_t address);
 void name_variable(const string *modules, uint64_t address, char *text, size_t size);
 /* symbols.c */
 const char *find_symbol(const char *path, uint64_t address, bool is_variable, uint64_t *begin);
-const char *readable(const char *symbol);
+const char *readable_name(const char *symbol);
 
 /* ---- signals.c: where signals take effect ---- */
 
 struct wait { int64_t from, to; };   /* the places of its beginning and of its return */
 struct call { int64_t from, to, at; bool takes_all; }; /* of a signal; at: the gap where it takes effect, or -1: in none */
-/* Finds a gap for each call within its two places, so that in each wait's time there is one that takes it out: signals one wait each, if that can
- * be, else as many as need it. Gives the number of waits that are left over: 0 exactly where a choice explains all. */
+/* Finds a gap for each call within its two places, so that in each wait's time there is one that takes it out: signals one wait each,
+ * if that can be, else as many as need it. Gives the number of waits that are left over: 0 exactly where a choice explains all. */
 int64_t place_calls(struct wait *waits, int64_t n_waits, struct call *calls, int64_t n_calls);
 
 /* ---- objects.c: which object stands at an address ---- */
@@ -116,11 +116,12 @@ struct found {
     LIST(struct event) events;
     LIST(struct also) also; /* further threads that a signal takes, by its event */
     LIST(struct two_mutexes) two;                     /* conditions whose waits are with two mutexes at once */
-    LIST(struct refused) strange;                     /* releases and waits without the mutex, one of each part: a checker refuses it there */
+    LIST(struct refused) strange; /* the first release or wait without the mutex of each part, which a checker refuses */
     LIST(struct freed) freed; /* mutexes whose memory was given back while a thread had them */
     int system;
     int *in_condition; /* of each thread: the condition that it is in at the end, or -1 */
-    int64_t unexplained, from_outside, several, renewed, nobody, signals, timeouts, cancelled, recursive, refused, doubtful, robust, unseen, unreleased, unposted;
+    int64_t unexplained, from_outside, several, renewed, nobody, signals, timeouts, cancelled, recursive, refused, doubtful, robust, rwlocks;
+    int64_t unseen, unreleased, unposted;
     bool is_ended; /* in an orderly way */
     const char *ends_early;
 };
@@ -186,8 +187,8 @@ void fit_parts(struct replay *y);
 struct use { int kind, name, object; int64_t first, last; };
 struct refusal { int64_t place, event, since; int thread, mutex; bool is_held; }; /* a release or wait without the mutex */
 struct legend { LIST(struct use) uses; struct refusal refusal; };
-/* Writes OUT.trace and OUT.legend, and OUT.partK of further parts; gives how many, or -1 where a file couldn't be written. `where` gets each event's
- * part and place. */
+/* Writes OUT.trace and OUT.legend, and OUT.partK of further parts; gives how many, or -1 where a file couldn't be written. `where` gets
+ * each event's part and place. */
 struct where { int part; int64_t place; };
 int write_parts(const struct process *p, struct found *f, const char *out, struct where *where);
 bool write_legend(const struct process *p, const struct found *f, struct legend *l, const char *path);
@@ -212,13 +213,14 @@ void find_orders(const struct process *p, const struct found *f, struct orders *
 int64_t find_edge(const struct orders *o, int from, int to); /* or -1 */
 
 enum sort { CAN_BLOCK, BY_READING, UNDER_GATE, ONE_THREAD };
-/* Each of the objects is held while the next is got, and the last while the first is: by this edge, and this example of it. `others`: further edges of
- * its component, where that isn't too large for a trace. */
+/* Each of the objects is held while the next is got, and the last while the first is: by this edge, and this example of it. `others`:
+ * further edges of its component, where that isn't too large for a trace. */
 struct cycle { enum sort sort; int gate; numbers edges, examples, others; int component; };
 typedef LIST(struct cycle) cycles;
 void find_cycles(const struct found *f, const struct orders *o, cycles *all);
 /* Writes OUT.orderK.trace and its legend, and says what it shows. */
-void say_cycle(const struct process *p, const struct found *f, const struct orders *o, const struct cycle *cycle, const char *out, int number, string *text);
+void say_cycle(const struct process *p, const struct found *f, const struct orders *o, const struct cycle *cycle, const char *out,
+               int number, string *text);
 
 /* ---- ends.c: who waits for what at the end ---- */
 
@@ -236,6 +238,8 @@ bool write_calls(const struct process *p, const struct found *f, const struct wh
 struct wishes { bool json, calls; };
 enum outcome { CONVERTED = 0, NOT_CONVERTED = 1, NO_CALLS = 2, ENDS_EARLY = 3, UNEXPLAINED = 4 };
 /* Converts one record file, and says on standard error what it found. */
-enum outcome convert(const char *folder, const char *name, const char *out, bool even_if_empty, struct wishes wishes);
+/* What a process needs for a trace; of the first nothing is said where it hasn't that. */
+enum need { EVENTS_FIRST, EVENTS, CALLS, NOTHING_NEEDED };
+enum outcome convert(const char *folder, const char *name, const char *out, enum need need, struct wishes wishes);
 
 #endif

@@ -1,5 +1,6 @@
-/* Cycles of locks, each got while the one before is held. Those that can't stop the program are told apart: where a lock that all of its threads have
- * at that time lets only one of them there, where one thread alone makes it, or where two of its steps only read the same lock. */
+/* Cycles of locks, each got while the one before is held. Those that can't stop the program are told apart: where a lock that all of its
+ * threads have at that time lets only one of them there, where one thread alone makes it, or where two of its steps only read the same
+ * lock. */
 #include "convert.h"
 #include <stdlib.h>
 #include <string.h>
@@ -17,7 +18,10 @@ struct graph {
 
 /* ---- strongly connected components, without recursion ---- */
 
-struct visit { int object; int64_t next; };
+struct visit {
+    int object;
+    int64_t next;
+};
 
 static void find_components(struct graph *g) {
     int64_t n = g->f->objects.n;
@@ -53,7 +57,7 @@ static void find_components(struct graph *g) {
 /* ---- what a cycle is ---- */
 
 /* The lock that both examples hold, other than both reading; -1: none. */
-static int common(const struct holdings *a, const struct holdings *b) {
+static int common_lock(const struct holdings *a, const struct holdings *b) {
     for (int64_t i = 0, k = 0; i < a->n && k < b->n;) {
         if (a->at[i].object == b->at[k].object && !(a->at[i].reads && b->at[k].reads)) return a->at[i].object;
         if (a->at[i].object < b->at[k].object) i++;
@@ -80,7 +84,7 @@ static enum sort sort_of(const struct graph *g, const struct cycle *c, int *gate
         for (int64_t k = 0; k < i; k++) {
             const struct witness *a = example(g, c, i), *b = example(g, c, k);
             if (a->thread == b->thread) return ONE_THREAD;
-            int lock = common(a->held, b->held);
+            int lock = common_lock(a->held, b->held);
             if (lock >= 0) worst = UNDER_GATE, *gate = lock;
         }
     for (int64_t i = 0; i < n && n == c->edges.n && worst == CAN_BLOCK; i++) {
@@ -134,7 +138,7 @@ static bool close_cycle(const struct graph *g, int first, int64_t *by, numbers *
 }
 
 static void take_better(struct cycle *best, struct cycle *new) {
-    if (!best->edges.n || new->sort < best->sort || (new->sort == best->sort && new->edges.n < best->edges.n)) {
+    if (!best->edges.n || new->sort < best->sort || (new->sort == best->sort &&new->edges.n < best->edges.n)) {
         struct cycle old = *best;
         *best = *new, *new = old;
     }

@@ -1,7 +1,8 @@
-/* record [--json] [--calls] OUT PROGRAM [ARGUMENTS..] | record --convert FOLDER [OUT]: runs a program with the library loaded before the C library's,
- * and converts the record of each of its processes.
+/* record [--json] [--calls] OUT PROGRAM [ARGUMENTS..] | record --convert FOLDER [OUT]: runs a program with the library loaded before the C
+ * library's, and converts the record of each of its processes.
  *
- * INT, TERM, HUP and QUIT go on to the program. Where it hasn't ended some seconds later it is killed; what was recorded is converted all the same. */
+ * INT, TERM, HUP and QUIT go on to the program. Where it hasn't ended some seconds later it is killed; what was recorded is converted all
+ * the same. */
 #define _GNU_SOURCE
 #include "convert.h"
 #include <dirent.h>
@@ -19,7 +20,13 @@
 #define SYSTEM_STANDS 123
 #define PATIENCE 5 /* seconds from a signal to the end of the program */
 
-struct run { char folder[4200], out[4200]; long main; int status; bool keeps_records; struct wishes wishes; };
+struct run {
+    char folder[4200], out[4200];
+    long main;
+    int status;
+    bool keeps_records;
+    struct wishes wishes;
+};
 
 static int fail(const char *form, const char *of) {
     fprintf(stderr, "record: ");
@@ -48,7 +55,8 @@ static const char *folder_to_keep;
 static void keep_records(int signal, siginfo_t *info, void *context) {
     static const char words[] = "record: stopped; the records stay in ";
     (void)info, (void)context;
-    if (write(2, words, sizeof words - 1) < 0 || write(2, folder_to_keep, strlen(folder_to_keep)) < 0 || write(2, "\n", 1) < 0) _exit(CANT_RECORD);
+    if (write(2, words, sizeof words - 1) < 0 || write(2, folder_to_keep, strlen(folder_to_keep)) < 0 || write(2, "\n", 1) < 0)
+        _exit(CANT_RECORD);
     _exit(128 + signal);
 }
 
@@ -149,22 +157,27 @@ static names find_records(const struct run *run) {
 }
 
 /* In a process of its own, so that of the others nothing is lost where one can't be converted. */
-static enum outcome convert_apart(const struct run *run, const char *name, const char *out, bool even_if_empty) {
+static enum outcome convert_apart(const struct run *run, const char *name, const char *out, enum need need) {
     int status = 0;
     fflush(NULL);
     pid_t converter = fork();
     if (converter < 0) return NOT_CONVERTED;
-    if (converter == 0) _exit(convert(run->folder, name, out, even_if_empty, run->wishes));
+    if (converter == 0) _exit(convert(run->folder, name, out, need, run->wishes));
     while (waitpid(converter, &status, 0) < 0 && errno == EINTR) {}
-    if (WIFEXITED(status) && WEXITSTATUS(status) <= UNEXPLAINED && WEXITSTATUS(status) != NOT_CONVERTED) return (enum outcome)WEXITSTATUS(status);
+    if (WIFEXITED(status) && WEXITSTATUS(status) <= UNEXPLAINED && WEXITSTATUS(status) != NOT_CONVERTED)
+        return (enum outcome)WEXITSTATUS(status);
     struct file file;
     bool is_readable = open_file(run->folder, name, &file);
-    fprintf(stderr, "record: the record of process %s, %s, is lost: %s %d\n", name + 3, is_readable ? file.head.program : "which can't be read",
-            WIFSIGNALED(status) ? "the converter was ended by signal" : "the converter's status is", WIFSIGNALED(status) ? WTERMSIG(status) : WEXITSTATUS(status));
+    fprintf(stderr, "record: the record of process %s, %s, is lost: %s %d\n", name + 3,
+            is_readable ? file.head.program : "which can't be read",
+            WIFSIGNALED(status) ? "the converter was ended by signal" : "the converter's status is",
+            WIFSIGNALED(status) ? WTERMSIG(status) : WEXITSTATUS(status));
     return NOT_CONVERTED;
 }
 
-struct totals { int found, lost, early, unexplained, empty; };
+struct totals {
+    int found, lost, early, unexplained, empty;
+};
 
 static void note(struct totals *t, enum outcome outcome) {
     t->found += outcome == CONVERTED || outcome == ENDS_EARLY || outcome == UNEXPLAINED;
@@ -174,21 +187,30 @@ static void note(struct totals *t, enum outcome outcome) {
     t->empty += outcome == NO_CALLS;
 }
 
-/* OUT is of the program's own process: of what that ran the first program that made a call. Where none did and other processes did, it is an empty trace. */
-static void convert_all(const struct run *run, names all, struct totals *t) {
+/* The program's own process: what it ran first that made calls with events, else that made calls, else an empty trace where others made some. */
+static void convert_main(const struct run *run, const names *all, struct totals *t) {
+    int64_t last = -1;
+    for (int64_t i = 0; i < all->n && is_of(all->at[i], run->main); i++) {
+        enum outcome outcome = convert_apart(run, all->at[last = i], run->out, CALLS);
+        note(t, outcome);
+        if (outcome != NO_CALLS) return;
+    }
+    if (last >= 0 && t->found) convert_apart(run, all->at[last], run->out, NOTHING_NEEDED);
+}
+
+/* OUT is of the program's own process, OUT.processK of the others and of what else that process ran. */
+static void convert_all(const struct run *run, const names *all, struct totals *t) {
     bool has_main = false;
-    int64_t last_main = -1;
     char out[4300];
-    for (int64_t i = 0; i < all.n; i++) {
-        bool of_main = is_of(all.at[i], run->main);
-        if (of_main) last_main = i;
+    for (int64_t i = 0; i < all->n; i++) {
+        bool of_main = is_of(all->at[i], run->main);
         if (of_main && !has_main) snprintf(out, sizeof out, "%s", run->out);
         else snprintf(out, sizeof out, "%s.process%d", run->out, t->found + 1 + !has_main);
-        enum outcome outcome = convert_apart(run, all.at[i], out, false);
-        if (of_main && outcome != NO_CALLS && outcome != NOT_CONVERTED) has_main = true;
+        enum outcome outcome = convert_apart(run, all->at[i], out, of_main && !has_main ? EVENTS_FIRST : EVENTS);
+        if (of_main && outcome != NO_CALLS) has_main = true;
         note(t, outcome);
     }
-    if (!has_main && t->found && last_main >= 0) convert_apart(run, all.at[last_main], run->out, true);
+    if (!has_main) convert_main(run, all, t);
 }
 
 static void remove_folder(const struct run *run, names all) {
@@ -232,11 +254,13 @@ static const char *why_nothing(const char *program, names all) {
     static char interpreter[2];
     const char *path = program;
     if (all.n) return "the program made no call of the C library's threads that is recorded";
-    if (stat(path, &info) == 0 && info.st_mode & (S_ISUID | S_ISGID)) return "the system gives the program other rights at its start, and no library is loaded before others then";
+    if (stat(path, &info) == 0 && info.st_mode & (S_ISUID | S_ISGID))
+        return "the system gives the program other rights at its start, and no library is loaded before others then";
     FILE *in = fopen(path, "r");
     size_t n = in ? fread(interpreter, 1, 2, in) : 0;
     if (in) fclose(in);
-    if (n == 2 && memcmp(interpreter, "\177E", 2) == 0) return "the library was not loaded: the program is static, or not for this C library";
+    if (n == 2 && memcmp(interpreter, "\177E", 2) == 0)
+        return "the library was not loaded: the program is static, or not for this C library";
     return "the library was not loaded";
 }
 
@@ -246,7 +270,7 @@ static int finish(struct run *run, const char *program) {
     folder_to_keep = run->folder;
     take_signals(keep_records);
     find_inheritances(run->folder, all.at, all.n);
-    convert_all(run, all, &t);
+    convert_all(run, &all, &t);
     if (!t.found && !t.lost) fprintf(stderr, "record: nothing was recorded: %s\n", why_nothing(program, all));
     if (t.lost) fprintf(stderr, "record: the records stay in %s: tools/record --convert %s converts them\n", run->folder, run->folder);
     else if (!run->keeps_records) remove_folder(run, all);

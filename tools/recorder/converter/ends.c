@@ -17,7 +17,10 @@ struct ends {
 static void name_thread(const struct ends *s, int thread, char *text, size_t size) {
     char what[2500];
     describe(s->p, s->f, thread, what, sizeof what);
-    snprintf(text, size, "thread %d (%s)", thread, thread == 0 && !s->f->objects.at[0].made ? "the first" : strncmp(what, "thread, ", 8) == 0 ? what + 8 : what);
+    snprintf(text, size, "thread %d (%s)", thread,
+             thread == 0 && !s->f->objects.at[0].made ? "the first"
+             : strncmp(what, "thread, ", 8) == 0      ? what + 8
+                                                      : what);
 }
 
 static int thread_of_handle(const struct ends *s, uint64_t handle) {
@@ -45,9 +48,9 @@ static void find_culprits(const struct ends *s, int thread, numbers *to) {
             }
 }
 
-/* ---- deadlocks: a circle of threads each of which waits for the next ---- */
+/* ---- deadlocks: a cycle of threads each of which waits for the next ---- */
 
-/* Comes from this thread to one that is on the way already; the way from there on is the circle. */
+/* Comes from this thread to one that is on the way already; the way from there on is the cycle. */
 static bool search(const struct ends *s, int thread, int *state, numbers *way) {
     numbers next = { 0 };
     bool found = false;
@@ -66,7 +69,8 @@ static bool search(const struct ends *s, int thread, int *state, numbers *way) {
 }
 
 static void say_wait(const struct ends *s, const struct blocked *b) {
-    static const char *const words[] = { "waits for", "waits to read", "waits to write", "waits for a unit of", "waits at a barrier", "waits for the end of" };
+    static const char *const words[] = { "waits for",           "waits to read",      "waits to write",
+                                         "waits for a unit of", "waits at a barrier", "waits for the end of" };
     char what[2600], place[2000];
     const struct record *r = &s->p->entries.at[b->entry].r;
     name_thread(s, b->thread, what, sizeof what);
@@ -123,8 +127,8 @@ static void say_in_condition(const struct ends *s, int thread, int64_t wait) {
     name_thread(s, thread, what, sizeof what);
     describe(s->p, s->f, e->b, condition, sizeof condition);
     name_place(s->p, e->r.place, place, sizeof place);
-    say(s->text, "    %s %s %s\n      called in %s\n", what, s->f->in_condition[thread] >= 0 ? "waits in" : "was signalled, and has not come back from",
-        condition, place);
+    say(s->text, "    %s %s %s\n      called in %s\n", what,
+        s->f->in_condition[thread] >= 0 ? "waits in" : "was signalled, and has not come back from", condition, place);
     if (s->f->in_condition[thread] >= 0) return;
     struct blocked b = { thread, wait, e->a, FOR_MUTEX };
     say_holders(s, &b);
@@ -171,7 +175,8 @@ void say_ends(const struct process *p, struct found *f, const struct orders *o, 
     for (int64_t i = 0; i < o->blocked.n; i++) s.blocked[o->blocked.at[i].thread] = (int)i + 1;
     for (int64_t i = 0; i < p->entries.n; i++) {
         const struct entry *e = &p->entries.at[i];
-        if ((OPERATION(&e->r) == WAIT || OPERATION(&e->r) == TIMED_WAIT) && e->mate < 0 && !e->dropped && !f->objects.at[e->thread].ended) wait[e->thread] = i;
+        if ((OPERATION(&e->r) == WAIT || OPERATION(&e->r) == TIMED_WAIT) && e->mate < 0 && !e->dropped && !f->objects.at[e->thread].ended)
+            wait[e->thread] = i;
     }
     say_deadlocks(&s, state);
     say_waits(&s, wait);

@@ -5,7 +5,9 @@
 
 /* ---- where signals take effect ---- */
 
-struct placed { int64_t gap, entry; };
+struct placed {
+    int64_t gap, entry;
+};
 
 static int by_gap(const void *x, const void *y) {
     const struct placed *a = x, *b = y;
@@ -53,10 +55,16 @@ static struct placed *place_all(struct process *p, struct found *f, int64_t *n) 
 /* ---- the events ---- */
 
 /* Who is in a condition, and when the wait ends: by a return that is to be explained, never, or by time. */
-struct inside { int thread; int64_t key, event; };
+struct inside {
+    int thread;
+    int64_t key, event;
+};
 #define NEVER (INT64_MAX - 1)
 #define BY_TIME INT64_MAX
-struct condition { LIST(struct inside) in; int64_t last_signal; };
+struct condition {
+    LIST(struct inside) in;
+    int64_t last_signal;
+};
 
 struct making {
     struct process *p;
@@ -109,8 +117,8 @@ static void signal_now(struct making *s, int thread, int condition, bool all) {
     s->f->events.at[event].b = take_out(c, best);
 }
 
-/* Who returns has to be out of the condition: by the last signal since its wait began, which then takes several; where there was none, by the
- * system, since nothing that was recorded explains it. */
+/* Who returns has to be out of the condition: by the last signal since its wait began, which then takes several; where there was none, by
+ * the system, since nothing that was recorded explains it. */
 static void be_out(struct making *s, int thread, int condition, bool shared) {
     struct condition *c = &s->conditions[condition];
     int64_t i = in_condition(c, thread);
@@ -186,8 +194,8 @@ static void post_now(struct making *s, int thread, int k) {
     if (++semaphore(s, k)->units > semaphore(s, k)->most) semaphore(s, k)->most = semaphore(s, k)->units;
 }
 
-/* After one is got, the system makes it available again while there are more. Where none was there by the record, the post wasn't recorded: of one
- * whose beginning wasn't seen, or that other processes share, it may have had that one from the beginning. */
+/* After one is got, the system makes it available again while there are more. Where none was there by the record, the post wasn't recorded:
+ * of one whose beginning wasn't seen, or that other processes share, it may have had that one from the beginning. */
 static void got_now(struct making *s, int thread, int k) {
     begin_using(s, k);
     if (semaphore(s, k)->units > 0) semaphore(s, k)->units--;
@@ -248,7 +256,9 @@ void find_events(struct process *p, struct found *f) {
     find_holds(p, f);
     int64_t n_placed, next = 0, n = f->objects.n;
     struct placed *placed = place_all(p, f, &n_placed);
-    struct making s = { p, f, clean((size_t)n, sizeof(struct condition)), clean((size_t)p->threads + 1, sizeof(int)), clean((size_t)n, sizeof(int)), -1 };
+    struct making s = {
+        p, f, clean((size_t)n, sizeof(struct condition)), clean((size_t)p->threads + 1, sizeof(int)), clean((size_t)n, sizeof(int)), -1
+    };
     f->in_condition = clean((size_t)p->threads + 1, sizeof(int));
     for (int k = 0; k <= p->threads; k++) f->in_condition[k] = -1;
     for (int64_t k = 0; k < n; k++) s.conditions[k].last_signal = -1, s.owner[k] = -1;

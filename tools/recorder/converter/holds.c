@@ -1,6 +1,6 @@
-/* Who has which mutex, and which calls are events. What gets stands at its number, which is from after the call, what gives at its number, from before
- * it. So the times in which a thread has a mutex are as short as they can be, and if any order within the calls' intervals keeps the table, this one
- * does. */
+/* Who has which mutex, and which calls are events. What gets stands at its number, which is from after the call, what gives at its number,
+ * from before it. So the times in which a thread has a mutex are as short as they can be, and if any order within the calls' intervals
+ * keeps the table, this one does. */
 #include "convert.h"
 #include <errno.h>
 #include <stdlib.h>
@@ -13,15 +13,18 @@ struct pass {
     struct process *p;
     struct found *f;
     struct map map;
-    int *depth;                              /* of each thread's wait: how often it had the mutex */
-    struct { int mutex, waits; } *waited_with; /* of each condition: the mutex of the waits in it, and how many */
+    int *depth; /* of each thread's wait: how often it had the mutex */
+    struct {
+        int mutex, waits;
+    } * waited_with; /* of each condition: the mutex of the waits in it, and how many */
     int64_t n_waited_with;
 };
 
 static struct object *object(struct pass *s, int k) { return &s->f->objects.at[k]; }
 
-/* A thread has got a mutex. Of one that it has already only a recursive one can be got again. Where by the record another thread has it, or the same
- * one and it isn't recursive, its memory was set anew (or the lock doesn't exclude, or an unlock wasn't recorded): a new object. */
+/* A thread has got a mutex. Of one that it has already only a recursive one can be got again. Where by the record another thread has it, or
+ * the same one and it isn't recursive, its memory was set anew (or the lock doesn't exclude, or an unlock wasn't recorded): a new object.
+ */
 static void lock(struct pass *s, struct entry *e) {
     uint64_t address = ADDRESS(&e->r);
     e->a = object_at(s->f, &s->map, MUTEX, address, e->r.place);
@@ -42,8 +45,8 @@ static void lock(struct pass *s, struct entry *e) {
     m->owner = e->thread, m->depth = 1;
 }
 
-/* A thread gives a mutex that by the record it doesn't have. False: its last call may have had no effect, so nothing can be said of it. Where the C
- * library knows the thread as the owner, it got the mutex by a call that wasn't recorded. */
+/* A thread gives a mutex that by the record it doesn't have. False: its last call may have had no effect, so nothing can be said of it.
+ * Where the C library knows the thread as the owner, it got the mutex by a call that wasn't recorded. */
 static bool gives_strange(struct pass *s, struct entry *e, struct object *m) {
     if (e->r.b & OWNED) {
         if (m->owner >= 0) { /* and the one who had it gave it back by such a call */
@@ -76,7 +79,7 @@ static void unlock(struct pass *s, struct entry *e) {
 }
 
 /* POSIX wants that the waits in a condition are with one mutex at a time. */
-static void note_mutex(struct pass *s, const struct entry *e, bool begins) {
+static void note_mutex_of(struct pass *s, const struct entry *e, bool begins) {
     if (s->n_waited_with <= e->b) {
         int64_t n = 2 * (int64_t)e->b + 64;
         s->waited_with = realloc(s->waited_with, (size_t)n * sizeof *s->waited_with);
@@ -111,7 +114,7 @@ static void wait_begins(struct pass *s, struct entry *e) {
     m = object(s, e->a);
     s->depth[e->thread] = m->owner == e->thread ? m->depth : 1;
     m->owner = -1, m->depth = 0;
-    note_mutex(s, e, true);
+    note_mutex_of(s, e, true);
 }
 
 static void wait_ends(struct pass *s, struct entry *e) {
@@ -127,7 +130,7 @@ static void wait_ends(struct pass *s, struct entry *e) {
     if (m->owner >= 0 && e->r.b == EOWNERDEAD) s->f->robust++;
     else if (m->owner >= 0) s->f->unreleased++;
     m->owner = e->thread, m->depth = s->depth[e->thread];
-    note_mutex(s, e, false);
+    note_mutex_of(s, e, false);
 }
 
 static void begin_semaphore(struct pass *s, struct entry *e) {
@@ -147,7 +150,7 @@ static void forget_at(struct pass *s, const struct entry *e, enum kind kind, uin
     renew(s->f, &s->map, kind, address, 0, false);
 }
 
-static void freed(struct pass *s, struct entry *e) {
+static void forget_freed(struct pass *s, struct entry *e) {
     static const enum kind kinds[] = { MUTEX, CONDITION, SEMAPHORE, RWLOCK };
     uint64_t from = ADDRESS(&e->r), to = from + e->r.b;
     if (e->r.b / 8 * 4 < s->map.room) {
@@ -183,7 +186,7 @@ static void pass_over(struct pass *s, struct entry *e) {
     case SEM_GONE: begin_semaphore(s, e); break;
     case GOT:
     case POST: e->a = object_at(s->f, &s->map, SEMAPHORE, address, e->r.place); break;
-    case RW_LOCK:
+    case RW_LOCK: s->f->rwlocks++; /* fall through */
     case RW_UNLOCK: e->a = object_at(s->f, &s->map, RWLOCK, address, e->r.place); break;
     case RW_INIT: renew(s->f, &s->map, RWLOCK, address, e->r.place, true); break;
     case RW_GONE: renew(s->f, &s->map, RWLOCK, address, e->r.place, false); break;
@@ -192,7 +195,7 @@ static void pass_over(struct pass *s, struct entry *e) {
         else if (e->r.b == FOR_READ || e->r.b == FOR_WRITE) e->a = object_at(s->f, &s->map, RWLOCK, address, e->r.place);
         else if (e->r.b == FOR_SEMAPHORE) e->a = object_at(s->f, &s->map, SEMAPHORE, address, e->r.place);
         break;
-    case FREED: freed(s, e); break;
+    case FREED: forget_freed(s, e); break;
     case THREAD_BEGIN: {
         struct object *thread = object(s, e->thread);
         thread->function = e->r.b, thread->handle = address, thread->made = true;

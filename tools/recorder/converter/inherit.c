@@ -1,11 +1,17 @@
-/* What the threads that forked processes had then. The records of each thread that forked are gone through once, however many processes it forked. */
+/* What the threads that forked processes had then. The records of each thread that forked are gone through once, however many processes it
+ * forked. */
 #include "convert.h"
 #include <stdlib.h>
 #include <string.h>
 
 typedef LIST(struct held) holdings;
 /* The names are those of the files. */
-struct fork { char name[72], from[72]; uint64_t thread, number; holdings held; bool done; };
+struct fork {
+    char name[72], from[72];
+    uint64_t thread, number;
+    holdings held;
+    bool done;
+};
 static LIST(struct fork) forks;
 
 static struct held *find(holdings *held, uint64_t address) {

@@ -3,11 +3,24 @@
 #include <stdlib.h>
 #include <string.h>
 
-static const char *const words[OPERATIONS] = {
-    [LOCK] = "lock", [UNLOCK] = "unlock", [WAIT] = "wait", [TIMED_WAIT] = "timed wait", [BACK] = "back from wait", [SIGNAL] = "signal",
-    [BROADCAST] = "broadcast", [GOT] = "semaphore wait", [POST] = "semaphore post", [THREAD_BEGIN] = "thread begins", [THREAD_END] = "thread ends",
-    [PROCESS_END] = "process ends", [BLOCKED] = "blocked", [UNBLOCKED] = "goes on", [RW_LOCK] = "lock to read", [RW_UNLOCK] = "unlock read-write" };
-static const char *const waiting[] = { "waits for a mutex", "waits to read", "waits to write", "waits for a unit", "waits at a barrier", "joins a thread" };
+static const char *const words[OPERATIONS] = { [LOCK] = "lock",
+                                               [UNLOCK] = "unlock",
+                                               [WAIT] = "wait",
+                                               [TIMED_WAIT] = "timed wait",
+                                               [BACK] = "back from wait",
+                                               [SIGNAL] = "signal",
+                                               [BROADCAST] = "broadcast",
+                                               [GOT] = "semaphore wait",
+                                               [POST] = "semaphore post",
+                                               [THREAD_BEGIN] = "thread begins",
+                                               [THREAD_END] = "thread ends",
+                                               [PROCESS_END] = "process ends",
+                                               [BLOCKED] = "blocked",
+                                               [UNBLOCKED] = "goes on",
+                                               [RW_LOCK] = "lock to read",
+                                               [RW_UNLOCK] = "unlock read-write" };
+static const char *const waiting[] = { "waits for a mutex", "waits to read",      "waits to write",
+                                       "waits for a unit",  "waits at a barrier", "joins a thread" };
 
 struct output {
     const struct process *p;
@@ -65,7 +78,8 @@ static void put_arguments(struct output *x, const struct entry *e) {
     char text[2600];
     int64_t event = x->event[e - x->p->entries.at];
     fprintf(x->out, ",\"args\":{\"record\":%lld", (long long)NUMBER(&e->r));
-    if (event && x->where[event - 1].part) fprintf(x->out, ",\"part\":%d,\"event\":%lld", x->where[event - 1].part, (long long)x->where[event - 1].place);
+    if (event && x->where[event - 1].part)
+        fprintf(x->out, ",\"part\":%d,\"event\":%lld", x->where[event - 1].part, (long long)x->where[event - 1].place);
     if (e->a >= 0) {
         describe(x->p, x->f, e->a, text, sizeof text);
         fputs(",\"object\":", x->out), put_quoted(x->out, text);
@@ -97,7 +111,8 @@ static void put_thread_name(struct output *x, int thread) {
     describe(x->p, x->f, thread, what, sizeof what);
     fputs(x->any ? ",\n" : "\n", x->out);
     x->any = true;
-    fprintf(x->out, "{\"name\":\"thread_name\",\"ph\":\"M\",\"pid\":%lld,\"tid\":%d,\"args\":{\"name\":", (long long)x->p->head.pid, thread);
+    fprintf(x->out, "{\"name\":\"thread_name\",\"ph\":\"M\",\"pid\":%lld,\"tid\":%d,\"args\":{\"name\":", (long long)x->p->head.pid,
+            thread);
     put_quoted(x->out, what);
     fputs("}}", x->out);
 }

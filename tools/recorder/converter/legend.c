@@ -23,7 +23,8 @@ static uint32_t place_of_event(const struct process *p, const struct found *f, i
     return entry < 0 ? 0 : p->entries.at[entry].r.place;
 }
 
-/* What a checker says of the event that it refuses names the thread and the mutex, so their lines at that event say where the calls were. */
+/* What a checker says of the event that it refuses names the thread and the mutex, so their lines at that event say where the calls were.
+ */
 static void print_refusal(const struct process *p, const struct found *f, const struct legend *l, const struct use *u, FILE *out) {
     const struct refusal *r = &l->refusal;
     char place[2000];
@@ -52,7 +53,8 @@ bool write_legend(const struct process *p, const struct found *f, struct legend 
         const struct refusal *r = &l->refusal;
         print_use(p, f, u, out);
         putc('\n', out);
-        if (r->place >= u->first && r->place <= u->last && (u->object == r->thread || u->object == r->mutex)) print_refusal(p, f, l, u, out);
+        if (r->place >= u->first && r->place <= u->last && (u->object == r->thread || u->object == r->mutex))
+            print_refusal(p, f, l, u, out);
     }
     bool good = !ferror(out);
     return fclose(out) == 0 && good;

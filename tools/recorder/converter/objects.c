@@ -27,7 +27,8 @@ static size_t cell(struct map *m, enum kind kind, uint64_t address) {
 }
 
 int new_object(struct found *f, enum kind kind, uint64_t address, uint32_t place, bool made) {
-    ADD(f->objects, (struct object){ .kind = kind, .address = address, .place = place, .made = made, .first = -1, .last = -1, .owner = -1 });
+    ADD(f->objects,
+        (struct object){ .kind = kind, .address = address, .place = place, .made = made, .first = -1, .last = -1, .owner = -1 });
     return (int)f->objects.n - 1;
 }
 
@@ -74,7 +75,8 @@ static void describe_thread(const struct process *p, const struct object *o, cha
     }
     name_address(&p->modules, o->method, false, place, sizeof place);
     bool is_named = callable_in(place, callable, sizeof callable);
-    if (is_code(&p->modules, o->target) && (!is_named || strstr(callable, "(*)"))) name_address(&p->modules, o->target, false, place, sizeof place);
+    if (is_code(&p->modules, o->target) && (!is_named || strstr(callable, "(*)")))
+        name_address(&p->modules, o->target, false, place, sizeof place);
     else if (is_named) snprintf(place, sizeof place, "%s", callable);
     snprintf(text + n, size - (size_t)n, "%s", place);
 }
@@ -89,6 +91,7 @@ void describe(const struct process *p, const struct found *f, int object, char *
         char variable[600];
         name_place(p, o->place, place, sizeof place);
         name_variable(&p->modules, o->address, variable, sizeof variable);
-        snprintf(text, size, "%s 0x%llx%s, %s in %s", what[o->kind], (unsigned long long)o->address, variable, o->made ? "made" : "first used", place);
+        snprintf(text, size, "%s 0x%llx%s, %s in %s", what[o->kind], (unsigned long long)o->address, variable,
+                 o->made ? "made" : "first used", place);
     }
 }

@@ -6,7 +6,11 @@
 #define MOST_SAID 10 /* cycles in words and files; of the others how many there are */
 #define MOST_STEPS 400
 
-struct step { int place, thread; int64_t entry; bool never; };
+struct step {
+    int place, thread;
+    int64_t entry;
+    bool never;
+};
 struct order {
     const struct process *p;
     const struct found *f;
@@ -69,8 +73,9 @@ static bool write_legend_of(const struct order *x, const char *out, int number) 
     for (int64_t i = 0; i < x->steps.n; i++) {
         int64_t entry = x->steps.at[i].entry;
         name_place(x->p, entry < 0 ? 0 : x->p->entries.at[entry].r.place, what, sizeof what);
-        fprintf(to, "# event %d, record %lld: t%d%s in %s\n", x->steps.at[i].place, entry < 0 ? -1 : (long long)NUMBER(&x->p->entries.at[entry].r),
-                x->steps.at[i].thread, x->steps.at[i].never ? " waits for it at the end" : "", what);
+        fprintf(to, "# event %d, record %lld: t%d%s in %s\n", x->steps.at[i].place,
+                entry < 0 ? -1 : (long long)NUMBER(&x->p->entries.at[entry].r), x->steps.at[i].thread,
+                x->steps.at[i].never ? " waits for it at the end" : "", what);
     }
     bool good = !ferror(to);
     return fclose(to) == 0 && good;
@@ -105,16 +110,18 @@ static void say_steps(struct order *x, const struct cycle *c, string *text) {
         name_place(x->p, held && held->entry >= 0 ? x->p->entries.at[held->entry].r.place : 0, place, sizeof place);
         say(text, "      t%d%s it in %s\n", name_among(&x->threads, w->thread), held && held->reads ? " reads" : " holds", place);
         name_place(x->p, x->p->entries.at[w->got].r.place, place, sizeof place);
-        say(text, "      and %s m%d%s in %s\n", w->never ? "waits for" : "gets", name_among(&x->locks, e->to), w->reads ? " to read" : "", place);
+        say(text, "      and %s m%d%s in %s\n", w->never ? "waits for" : "gets", name_among(&x->locks, e->to), w->reads ? " to read" : "",
+            place);
     }
 }
 
-void say_cycle(const struct process *p, const struct found *f, const struct orders *o, const struct cycle *c, const char *out, int number, string *text) {
+void say_cycle(const struct process *p, const struct found *f, const struct orders *o, const struct cycle *c, const char *out, int number,
+               string *text) {
     static const char *const words[] = {
-        "threads can stop for ever, each with one of these and waiting for the next",
-        "no fault by itself, since a lock that is only read doesn't exclude; threads can stop where a writer waits between them",
-        "no fault, since all its threads hold one lock more at that time",
-        "no fault, since no two threads make it" };
+        "threads can deadlock, each with one of these locks and waiting for the next",
+        "no fault by itself: two steps only read the same lock, so threads deadlock only if a writer waits between them",
+        "no fault: all its threads hold one further lock at that time", "no fault: one thread alone makes it"
+    };
     char what[2600];
     struct order x = { .p = p, .f = f, .o = o };
     if (number == MOST_SAID + 1) say(text, "  further cycles in the order of locks are left out\n");
@@ -123,11 +130,11 @@ void say_cycle(const struct process *p, const struct found *f, const struct orde
         say(text, "  %s.order%d.trace can't be written\n", out, number);
         return;
     }
-    say(text, "  %s of %lld locks: %s.order%d.trace: %s\n", c->sort == CAN_BLOCK ? "LOCK ORDER: a cycle" : "a cycle", (long long)c->edges.n, out, number,
-        words[c->sort]);
+    say(text, "  %s of %lld locks: %s.order%d.trace: %s\n", c->sort == CAN_BLOCK ? "LOCK ORDER: a cycle" : "a cycle", (long long)c->edges.n,
+        out, number, words[c->sort]);
     if (c->sort == UNDER_GATE && c->gate >= 0) {
         describe(p, f, c->gate, what, sizeof what);
-        say(text, "    that lock: %s\n", what);
+        say(text, "    the further lock: %s\n", what);
     }
     if (c->sort == CAN_BLOCK || c->sort == BY_READING) say_steps(&x, c, text);
     free(x.locks.at), free(x.threads.at), free(x.steps.at);

@@ -1,5 +1,5 @@
-/* Which locks were got, or waited for, while others were held: by object, over the whole process. A call that tries is no reason to wait for ever, so
- * what it gets comes after nothing; but what is got while that is held comes after it. */
+/* Which locks were got, or waited for, while others were held: by object, over the whole process. A call that tries is no reason to wait
+ * for ever, so what it gets comes after nothing; but what is got while that is held comes after it. */
 #include "convert.h"
 #include <stdlib.h>
 
@@ -56,8 +56,8 @@ static const struct holdings *holdings_of(const struct held_now *held) {
     return all;
 }
 
-/* Where this example of an edge is kept: at the end, or in place of one with more locks, since fewer locks are common to others; -1: it says nothing
- * new. */
+/* Where this example of an edge is kept: at the end, or in place of one with more locks, since fewer locks are common to others; -1: it
+ * says nothing new. */
 static int64_t place_for(const struct edge *e, int thread, bool reads, const struct held_now *held) {
     int64_t of_thread = 0, longest = -1;
     for (int64_t i = 0; i < e->of.n; i++) {

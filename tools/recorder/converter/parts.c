@@ -1,11 +1,11 @@
-/* Which objects stand in which trace. Each object has a name of its own as long as there are enough; then a name is used again once its object is used
- * no more and at rest. Where more objects are in use at once than a trace has names for, there are several parts, each of some mutexes with their
- * conditions, or of some semaphores: an event changes and reads only its own mutex, condition and semaphore and its own thread's wait, and alerts
- * come here in pairs of an alert and the raise by it, so the whole keeps the table exactly where each part does. Of a mutex with too many conditions
- * each part has some; a wait in another one is a release and an acquire.
+/* Which objects stand in which trace. Each object has a name of its own as long as there are enough; then a name is used again once its
+ * object is used no more and at rest. Where more objects are in use at once than a trace has names for, there are several parts, each of
+ * some mutexes with their conditions, or of some semaphores: an event changes and reads only its own mutex, condition and semaphore and its
+ * own thread's wait, and alerts come here in pairs of an alert and the raise by it, so the whole keeps the table exactly where each part
+ * does. Of a mutex with too many conditions each part has some; a wait in another one is a release and an acquire.
  *
- * Where more threads hold mutexes or wait at once than there are names, a part is split further, by its objects. Of one condition with more threads
- * each part has some of its waits, and those signals that take one of them, or nobody. */
+ * Where more threads hold mutexes or wait at once than there are names, a part is split further, by its objects. Of one condition with more
+ * threads each part has some of its waits, and those signals that take one of them, or nobody. */
 #include "convert.h"
 #include <stdlib.h>
 #include <string.h>
@@ -145,7 +145,7 @@ void make_parts(struct parts *s, const struct found *f) {
 /* ---- splitting ---- */
 
 /* Objects that have to stand together: a condition, and each mutex of its waits. */
-static int together(struct parts *s, const struct part *p, int *root) {
+static int find_groups(struct parts *s, const struct part *p, int *root) {
     int n = 0;
     for (int64_t i = 0; i < p->objects.n; i++) root[i] = (int)i;
     for (int64_t i = 0; i < p->objects.n; i++) {
@@ -196,7 +196,7 @@ static void move_events(struct parts *s, int part, int new) {
 
 /* Each further part has the same objects and events, and other waits. */
 static void split_waits(struct parts *s, int part, int classes) {
-    for (int class = 1; class < classes; class++) {
+    for (int class = 1; class < classes; class ++) {
         ADD(s->parts, s->parts.at[part]);
         int new = (int)s->parts.n - 1;
         struct part *from = &s->parts.at[part], *to = &s->parts.at[new];
@@ -230,7 +230,7 @@ static bool move_condition(struct parts *s, int part) {
 bool split_part(struct parts *s, int part, int most_waits) {
     int64_t n = s->parts.at[part].objects.n;
     if (s->parts.at[part].classes > 1) return false;
-    int *root = clean((size_t)n, sizeof *root), groups = together(s, &s->parts.at[part], root), mutexes = 0;
+    int *root = clean((size_t)n, sizeof *root), groups = find_groups(s, &s->parts.at[part], root), mutexes = 0;
     for (int64_t i = 0; i < n; i++) mutexes += object(s, s->parts.at[part].objects.at[i])->kind == MUTEX;
     bool good = true;
     if (groups > 1) {

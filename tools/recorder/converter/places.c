@@ -1,9 +1,14 @@
-/* Names places in the code: the module, the address in it as its file and addr2line count, and the function where the file has its symbol. */
+/* Names places in the code: the module, the address in it as its file and addr2line count, and the function where the file has its symbol.
+ */
 #include "convert.h"
 #include <stdlib.h>
 #include <string.h>
 
-struct module { uint64_t bias, begin, end; bool is_code; char path[304]; };
+struct module {
+    uint64_t bias, begin, end;
+    bool is_code;
+    char path[304];
+};
 
 /* The segments of one process at a time. */
 static LIST(struct module) segments;
@@ -44,7 +49,7 @@ static void look_up(const string *modules, uint64_t address, char *text, size_t 
         return;
     }
     const char *slash = strrchr(m.path, '/') + 1, *name = find_symbol(m.path, address - m.bias, false, &begin);
-    snprintf(text, size, "%s+0x%llx%s%s", slash, (unsigned long long)(address - m.bias), name ? " " : "", name ? readable(name) : "");
+    snprintf(text, size, "%s+0x%llx%s%s", slash, (unsigned long long)(address - m.bias), name ? " " : "", name ? readable_name(name) : "");
 }
 
 void name_variable(const string *modules, uint64_t address, char *text, size_t size) {
@@ -53,12 +58,15 @@ void name_variable(const string *modules, uint64_t address, char *text, size_t s
     const char *name = module_at(modules, address, &m) && !m.is_code ? find_symbol(m.path, address - m.bias, true, &begin) : NULL;
     uint64_t offset = name ? address - m.bias - begin : 0;
     if (!name) *text = 0;
-    else if (offset) snprintf(text, size, " %s+0x%llx", readable(name), (unsigned long long)offset);
-    else snprintf(text, size, " %s", readable(name));
+    else if (offset) snprintf(text, size, " %s+0x%llx", readable_name(name), (unsigned long long)offset);
+    else snprintf(text, size, " %s", readable_name(name));
 }
 
 /* What was looked up, by addresses; of one process at a time. */
-static struct { uint64_t address; char *text; } *kept;
+static struct {
+    uint64_t address;
+    char *text;
+} * kept;
 static size_t room, n_kept;
 static const string *kept_of;
 

@@ -104,7 +104,8 @@ static void read_chunks(const struct file *file, uint64_t stop, struct process *
         else {
             const struct record *r = (const struct record *)(chunk + 1);
             for (uint32_t i = 0; i < count; i++)
-                if (NUMBER(&r[i]) < stop) ADD(p->entries, (struct entry){ .r = r[i], .thread = (int)chunk->thread, .mate = -1, .a = -1, .b = -1 });
+                if (NUMBER(&r[i]) < stop)
+                    ADD(p->entries, (struct entry){ .r = r[i], .thread = (int)chunk->thread, .mate = -1, .a = -1, .b = -1 });
             for (int i = 0; i < LEFT_OUT_KINDS; i++) p->left_out[i] += chunk->left_out[i];
         }
     }
@@ -153,7 +154,9 @@ static void number_threads(struct process *p) {
 }
 
 /* The last records of each thread that are still without what ends them; -1: none. */
-struct open { int64_t wait, signal, unlock, blocked, last; };
+struct open {
+    int64_t wait, signal, unlock, blocked, last;
+};
 
 static void tie_to(struct process *p, int64_t *open, int64_t i) {
     if (*open < 0) return;
@@ -193,8 +196,8 @@ static bool tie(struct process *p, struct open *open, int64_t i) {
     return true;
 }
 
-/* Ties waits and signals to their ends, takes refused unlocks out, and notes each thread's last record. Where a wait begins within a wait, the
- * record ends. */
+/* Ties waits and signals to their ends, takes refused unlocks out, and notes each thread's last record. Where a wait begins within a wait,
+ * the record ends. */
 static void tie_all(struct process *p) {
     struct open *open = clean((size_t)p->threads, sizeof *open);
     for (int i = 0; i < p->threads; i++) open[i] = (struct open){ -1, -1, -1, -1, -1 };

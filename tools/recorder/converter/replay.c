@@ -4,8 +4,13 @@
 
 void begin_replay(struct replay *y, const struct found *f, struct parts *s) {
     size_t objects = (size_t)f->objects.n, threads = (size_t)f->system + 1;
-    *y = (struct replay){ .f = f, .s = s, .holder = clean(objects, sizeof(int)), .since = clean(objects, sizeof(int64_t)),
-                          .holds = clean(threads, sizeof(int)), .waits = clean(threads, sizeof *y->waits), .slot = clean(threads, sizeof(int)),
+    *y = (struct replay){ .f = f,
+                          .s = s,
+                          .holder = clean(objects, sizeof(int)),
+                          .since = clean(objects, sizeof(int64_t)),
+                          .holds = clean(threads, sizeof(int)),
+                          .waits = clean(threads, sizeof *y->waits),
+                          .slot = clean(threads, sizeof(int)),
                           .inside = clean(objects, sizeof *y->inside) };
     for (size_t k = 0; k < objects; k++) y->holder[k] = -1, y->since[k] = -1;
 }

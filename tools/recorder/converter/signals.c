@@ -1,21 +1,24 @@
 /* Finds where the signals and broadcasts of one condition take effect.
  *
- * A wait that returned needs a call that takes effect within its time; each call takes effect once, within its own. Which wait a call ended can't be
- * observed. The search goes through the waits by their ends. What has begun by then is told apart by its own end alone: of two calls the one that ends
- * earlier serves no later wait that the other doesn't serve. So, by exchange:
+ * A wait that returned needs a call that takes effect within its time; each call takes effect once, within its own. Which wait a call ended
+ * can't be observed. The search goes through the waits by their ends. What has begun by then is told apart by its own end alone: of two
+ * calls the one that ends earlier serves no later wait that the other doesn't serve. So, by exchange:
  *
- * - Of calls that take all (and a signal of the published table may take several, or all) one whose end has passed takes effect there: earlier it
- *   would take none more of those that are still to come. For a wait that none has taken, one that is still under way takes effect just before the
- *   wait's end, and of several the one that ends first. So a wait is left over exactly where no choice explains all.
- * - Of signals that take one wait each, the one that ends first after the wait's beginning: that is a maximum matching of signals and waits.
+ * - Of calls that take all (and a signal of the published table may take several, or all) one whose end has passed takes effect there:
+ * earlier it would take none more of those that are still to come. For a wait that none has taken, one that is still under way takes effect
+ * just before the wait's end, and of several the one that ends first. So a wait is left over exactly where no choice explains all.
+ * - Of signals that take one wait each, the one that ends first after the wait's beginning: that is a maximum matching of signals and
+ * waits.
  *
- * Broadcasts beside signals of one wait each leave a choice that neither decides, so two ways are tried. Where they leave a wait over, signals take
- * several, which decides. */
+ * Broadcasts beside signals of one wait each leave a choice that neither decides, so two ways are tried. Where they leave a wait over,
+ * signals take several, which decides. */
 #include "convert.h"
 #include <stdlib.h>
 
 /* A set of numbers below 64^5, with the least member from a number on. */
-struct bits { uint64_t *level[5]; };
+struct bits {
+    uint64_t *level[5];
+};
 
 static void bits_make(struct bits *b, int64_t n) {
     for (int i = 0; i < 5; i++) n = n / 64 + 1, b->level[i] = clean((size_t)n, sizeof(uint64_t));
@@ -114,7 +117,9 @@ static bool explains(struct search *s, const struct wait *wait, enum way way) {
 }
 
 static int64_t search_by(enum way way, struct wait *waits, int64_t n_waits, struct call *calls, int64_t n) {
-    struct search s = { .calls = calls, .n = n, .taken = -1, .ended = clean((size_t)n, sizeof(int64_t)), .place = clean((size_t)n, sizeof(int64_t)) };
+    struct search s = {
+        .calls = calls, .n = n, .taken = -1, .ended = clean((size_t)n, sizeof(int64_t)), .place = clean((size_t)n, sizeof(int64_t))
+    };
     int64_t left = 0;
     bits_make(&s.ones, n), bits_make(&s.alls, n);
     for (int64_t i = 0; i < n; i++) s.ended[i] = i, calls[i].at = -1;

@@ -11,12 +11,18 @@
 #include <sys/stat.h>
 #include <unistd.h>
 
-struct symbol { uint64_t begin, end; const char *name; };
+struct symbol {
+    uint64_t begin, end;
+    const char *name;
+};
 typedef LIST(struct symbol) symbols_by_place;
-struct symbols { char path[304]; symbols_by_place functions, variables; };
+struct symbols {
+    char path[304];
+    symbols_by_place functions, variables;
+};
 static LIST(struct symbols) known;
 
-static void add_section(struct symbols *to, const char *file, size_t size, const ElfW(Shdr) *s, const ElfW(Shdr) *names) {
+static void add_section(struct symbols *to, const char *file, size_t size, const ElfW(Shdr) * s, const ElfW(Shdr) * names) {
     if (s->sh_offset + s->sh_size > size || names->sh_offset + names->sh_size > size) return;
     const ElfW(Sym) *symbols = (const ElfW(Sym) *)(file + s->sh_offset);
     for (size_t i = 0; i < s->sh_size / sizeof *symbols; i++) {
@@ -82,7 +88,7 @@ const char *find_symbol(const char *path, uint64_t address, bool is_variable, ui
 }
 
 /* A C++ name as it is written, where the machine has libstdc++; it is kept by the caller. */
-const char *readable(const char *symbol) {
+const char *readable_name(const char *symbol) {
     static char *(*demangle)(const char *, char *, size_t *, int *);
     static bool asked;
     if (symbol[0] != '_' || symbol[1] != 'Z') return symbol;

@@ -8,12 +8,12 @@ struct text {
     const struct found *f;
     struct parts *s;
     struct replay *y;
-    int part, most[PARTED];   /* names of each kind */
-    int names;                /* for threads, without the system's */
-    int given;                /* of these */
-    int *name;                /* of each thread: its name now, or -1 */
-    int64_t *use_of;          /* of each object: its last use */
-    int bearer[NAMES];        /* of each thread's name: who has it */
+    int part, most[PARTED]; /* names of each kind */
+    int names;              /* for threads, without the system's */
+    int given;              /* of these */
+    int *name;              /* of each thread: its name now, or -1 */
+    int64_t *use_of;        /* of each object: its last use */
+    int bearer[NAMES];      /* of each thread's name: who has it */
     struct legend legend;
     int64_t place;
     struct where *where;
@@ -61,7 +61,7 @@ static void put_name(struct text *x, const char *before, int number) {
 
 /* ---- names ---- */
 
-static void used(struct text *x, int object, int kind, int name) {
+static void note_use(struct text *x, int object, int kind, int name) {
     int64_t *k = &x->use_of[object];
     if (*k < 0 || x->legend.uses.at[*k].name != name) {
         *k = x->legend.uses.n;
@@ -131,8 +131,10 @@ static void put_left(struct text *x, int64_t event) {
 }
 
 static void put_event(struct text *x, int64_t event, enum action action, int thread) {
-    static const char *const words[] = { " acquire ", " release ", " enqueue ", " resume ", " alert-enqueue ", " alert-resume ", " alert-resume ",
-                                         " signal ", " broadcast ", " p ", " v ", " alert " };
+    static const char *const words[] = {
+        " acquire ", " release ",   " enqueue ", " resume ", " alert-enqueue ", " alert-resume ", " alert-resume ",
+        " signal ",  " broadcast ", " p ",       " v ",      " alert "
+    };
     const struct event *e = &x->f->events.at[event];
     put_number(x, x->place);
     put_name(x, " t", thread);
@@ -142,12 +144,12 @@ static void put_event(struct text *x, int64_t event, enum action action, int thr
         static const char *const letters[] = { "m", "c", "s" };
         int kind = (int)x->f->objects.at[e->a].kind, a = name_in(x->s, e->a, x->part);
         put_name(x, letters[kind], a);
-        used(x, e->a, kind, a);
+        note_use(x, e->a, kind, a);
     }
     if (action >= ENQUEUE && action <= ALERT_RAISE) {
         int b = name_in(x->s, e->b, x->part);
         put_name(x, " c", b);
-        used(x, e->b, CONDITION, b);
+        note_use(x, e->b, CONDITION, b);
     }
     if (action == ALERT_RETURN || action == ALERT_RAISE) put_text(x, action == ALERT_RETURN ? " returns" : " raises");
     if (action == SIGNALS) put_left(x, event);
@@ -176,7 +178,7 @@ static void put_events(struct text *x) {
             x->ends_early = "more threads hold or wait at once than a trace has names for";
             break;
         }
-        used(x, e->thread, THREAD, thread);
+        note_use(x, e->thread, THREAD, thread);
         put_event(x, event, action, thread);
         note_refusal(x, event, action);
         if (x->where && !x->where[event].part) x->where[event] = (struct where){ x->part + 1, x->place };
@@ -230,8 +232,14 @@ int write_parts(const struct process *p, struct found *f, const char *out, struc
     make_parts(&s, f);
     begin_replay(&y, f, &s);
     fit_parts(&y);
-    struct text x = { .p = p, .f = f, .s = &s, .y = &y, .name = clean(threads, sizeof(int)), .use_of = clean((size_t)f->objects.n, sizeof(int64_t)),
-                      .where = where, .buffer = clean(BUFFER + 64, 1) };
+    struct text x = { .p = p,
+                      .f = f,
+                      .s = &s,
+                      .y = &y,
+                      .name = clean(threads, sizeof(int)),
+                      .use_of = clean((size_t)f->objects.n, sizeof(int64_t)),
+                      .where = where,
+                      .buffer = clean(BUFFER + 64, 1) };
     for (int64_t k = 0; k < f->objects.n; k++) x.use_of[k] = -1;
     for (size_t k = 0; k < threads; k++) x.name[k] = -1;
     for (int k = 0; k < NAMES; k++) x.bearer[k] = -1;

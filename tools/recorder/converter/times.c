@@ -22,7 +22,11 @@ double nanoseconds_of_a_tick(void) {
     return known = (end - begin) / (double)(ticks_now() - first);
 }
 
-struct use_of_lock { int object; int64_t got, contended; uint64_t waited, longest_wait, longest_hold, since; };
+struct use_of_lock {
+    int object;
+    int64_t got, contended;
+    uint64_t waited, longest_wait, longest_hold, since;
+};
 
 static void note_got(const struct process *p, struct use_of_lock *u, const struct entry *e) {
     u->got++;

@@ -20,11 +20,16 @@ void *real[HOW_MANY];
 static const struct { const char *name, *version; } names[] = { CALLS(CALL_NAME) };
 static _Atomic uint64_t end_of_file;
 static char prefix[4000], path[4096], own_name[64];
-static int kept = -1; /* a descriptor of the file, for who gives up the right to open it; as long as it is that file's (kept_is) */
+int kept_file = -1; /* for a program that gives up the right to open it; as long as it is that file's (kept_is) */
 static struct stat kept_is;
 
 /* Room in the file that is mapped before the program forbids itself system calls. */
-static struct { _Atomic int is_there; char *at; uint64_t size; _Atomic uint64_t used; } provided;
+static struct {
+    _Atomic int is_there;
+    char *at;
+    uint64_t size;
+    _Atomic uint64_t used;
+} provided;
 
 /* From now on records may be missing. */
 void stop(const char *why) {
@@ -39,9 +44,9 @@ static int is_record_file(int fd) {
     return fd >= 0 && fstat(fd, &is) == 0 && is.st_dev == kept_is.st_dev && is.st_ino == kept_is.st_ino;
 }
 
-/* The file by the descriptor that is kept; where the program has closed that, by its name. */
+/* The file by the descriptor that is kept; where the program has another file there, by its name. */
 static int open_file(void) {
-    int fd = kept >= 0 ? fcntl(kept, F_DUPFD_CLOEXEC, 0) : -1;
+    int fd = kept_file >= 0 ? fcntl(kept_file, F_DUPFD_CLOEXEC, 0) : -1;
     if (is_record_file(fd)) return fd;
     if (fd >= 0) close(fd);
     return open(path, O_RDWR | O_CLOEXEC);
@@ -57,7 +62,8 @@ static void *reserve(uint64_t size, const char **why) {
     int fd = open_file();
     if (fd < 0) return NULL;
     *why = "the disk is full";
-    void *found = posix_fallocate(fd, (off_t)at, (off_t)size) ? MAP_FAILED : mmap(NULL, size, PROT_READ | PROT_WRITE, MAP_SHARED, fd, (off_t)at);
+    void *found =
+        posix_fallocate(fd, (off_t)at, (off_t)size) ? MAP_FAILED : mmap(NULL, size, PROT_READ | PROT_WRITE, MAP_SHARED, fd, (off_t)at);
     close(fd);
     if (found == MAP_FAILED) return NULL;
     madvise(found, size, MADV_DONTFORK);
@@ -112,16 +118,22 @@ static int make_file(void) {
     return fd;
 }
 
+/* A number that programs hardly use. */
+static int keep(int fd) {
+    struct rlimit most;
+    rlim_t number = getrlimit(RLIMIT_NOFILE, &most) || most.rlim_cur > 700 ? 700 : most.rlim_cur - 1;
+    return fcntl(fd, F_DUPFD_CLOEXEC, (int)number);
+}
+
 /* Says why, where no file can be made. */
 static int begin_file(const char *forked_from, uint64_t fork_number) {
     const char *why;
     head = NULL;
-    if (is_record_file(kept)) close(kept); /* of who forked this process */
-    kept = -1;
+    if (is_record_file(kept_file)) REAL(close)(kept_file); /* of the process that forked this one */
+    kept_file = -1;
     int fd = make_file();
     if (fd < 0) return *prefix ? errno : 0;
-    kept = fstat(fd, &kept_is) ? -1 : fcntl(fd, F_DUPFD_CLOEXEC, 700);
-    if (kept < 0) kept = fcntl(fd, F_DUPFD_CLOEXEC, 0);
+    kept_file = fstat(fd, &kept_is) ? -1 : keep(fd);
     close(fd);
     atomic_store(&end_of_file, 0);
     atomic_store(&stopped, 0);
@@ -144,8 +156,8 @@ static int begin_file(const char *forked_from, uint64_t fork_number) {
     return 0;
 }
 
-/* In a forked process, which has the one thread that forked: a file of its own. What that thread held it holds still, so nothing can be recorded
- * where its own records were missing already. */
+/* In a forked process, which has the one thread that forked: a file of its own. What that thread held it holds still, so nothing can be
+ * recorded where its own records were missing already. */
 void begin_forked(void) {
     int none = 0, cancel, error;
     char parent[64];
@@ -192,6 +204,7 @@ int begin_slowly(void) {
         if (names[i].version) real[i] = dlvsym(RTLD_NEXT, names[i].name, names[i].version);
         if (!real[i]) real[i] = dlsym(RTLD_NEXT, names[i].name);
     }
+    look_at_allocator();
     here = mmap(NULL, PAGE, PROT_READ | PROT_WRITE, MAP_PRIVATE | MAP_ANONYMOUS, -1, 0);
     if ((void *)here != MAP_FAILED && madvise((void *)here, PAGE, MADV_WIPEONFORK) == 0 && pthread_key_create(&key, thread_ended) == 0) {
         atomic_store(here, 1);

@@ -5,10 +5,12 @@
 #include "../record.h"
 #include <pthread.h>
 #include <semaphore.h>
+#include <dlfcn.h>
 #include <malloc.h>
 #include <stdlib.h>
 #include <threads.h>
 #include <time.h>
+#include <unistd.h>
 
 #define HIDDEN __attribute__((visibility("hidden")))
 
@@ -55,6 +57,7 @@ enum { UNBEGUN, BEGINNING, READY };
 extern HIDDEN _Atomic int state, stopped;
 extern HIDDEN _Atomic int *here; /* 1; in a forked process 0 at first, 2 while it begins its own file */
 extern HIDDEN struct head *head; /* NULL: nothing is recorded */
+extern HIDDEN int kept_file;     /* a descriptor of the file, which the program doesn't know; -1: none */
 HIDDEN void stop(const char *why);
 HIDDEN struct chunk *new_chunk(uint64_t size, uint32_t thread);
 HIDDEN void drop_chunk(struct chunk *chunk);
@@ -72,8 +75,8 @@ static inline int begin(void) {
 static inline struct lane *enter(void) {
     int *depth = &me.depth;
     struct lane *lane = &me.lanes[*depth];
-    if (__builtin_expect(!head || atomic_load_explicit(&stopped, memory_order_relaxed) || atomic_load_explicit(here, memory_order_relaxed) != 1 ||
-                             *depth == LANES || lane->count == lane->room, 0))
+    if (__builtin_expect(!head || atomic_load_explicit(&stopped, memory_order_relaxed) ||
+                             atomic_load_explicit(here, memory_order_relaxed) != 1 || *depth == LANES || lane->count == lane->room, 0))
         return enter_slowly();
     ++*depth;
     atomic_signal_fence(memory_order_seq_cst);
@@ -87,19 +90,19 @@ static inline void leave(void) {
 
 /* ---- the calls that are taken over, with the version that is wanted where an old one of another meaning exists ---- */
 
-#define CALLS(X)                                                                                                                                  \
-    X(pthread_mutex_lock, 0) X(pthread_mutex_unlock, 0) X(pthread_mutex_trylock, 0) X(pthread_mutex_timedlock, 0) X(pthread_mutex_clocklock, 0)   \
-    X(pthread_mutex_init, 0) X(pthread_mutex_destroy, 0) X(pthread_cond_wait, "GLIBC_2.3.2") X(pthread_cond_timedwait, "GLIBC_2.3.2")             \
-    X(pthread_cond_clockwait, 0) X(pthread_cond_signal, "GLIBC_2.3.2") X(pthread_cond_broadcast, "GLIBC_2.3.2")                                   \
-    X(pthread_cond_init, "GLIBC_2.3.2") X(pthread_cond_destroy, "GLIBC_2.3.2") X(sem_init, 0) X(sem_destroy, 0) X(sem_wait, 0)                    \
-    X(sem_trywait, 0) X(sem_timedwait, 0) X(sem_clockwait, 0) X(sem_post, 0) X(pthread_create, 0) X(pthread_join, 0)                              \
-    X(pthread_rwlock_rdlock, 0) X(pthread_rwlock_wrlock, 0) X(pthread_rwlock_tryrdlock, 0) X(pthread_rwlock_trywrlock, 0)                         \
-    X(pthread_rwlock_timedrdlock, 0) X(pthread_rwlock_timedwrlock, 0) X(pthread_rwlock_clockrdlock, 0) X(pthread_rwlock_clockwrlock, 0)           \
-    X(pthread_rwlock_unlock, 0) X(pthread_rwlock_init, 0) X(pthread_rwlock_destroy, 0)                                                            \
-    X(pthread_barrier_wait, 0) X(pthread_spin_lock, 0) X(pthread_spin_trylock, 0) X(mtx_lock, 0)                                                  \
-    X(mtx_unlock, 0) X(mtx_trylock, 0) X(mtx_timedlock, 0) X(mtx_init, 0) X(mtx_destroy, 0) X(cnd_wait, 0) X(cnd_timedwait, 0) X(cnd_signal, 0)   \
-    X(cnd_broadcast, 0) X(cnd_init, 0) X(cnd_destroy, 0) X(thrd_create, 0) X(thrd_join, 0) X(free, 0) X(malloc_usable_size, 0) X(syscall, 0)      \
-    X(prctl, 0)
+#define CALLS(X) \
+    X(pthread_mutex_lock, 0) X(pthread_mutex_unlock, 0) X(pthread_mutex_trylock, 0) X(pthread_mutex_timedlock, 0) X(pthread_mutex_clocklock, 0) \
+    X(pthread_mutex_init, 0) X(pthread_mutex_destroy, 0) X(pthread_cond_wait, "GLIBC_2.3.2") X(pthread_cond_timedwait, "GLIBC_2.3.2") \
+    X(pthread_cond_clockwait, 0) X(pthread_cond_signal, "GLIBC_2.3.2") X(pthread_cond_broadcast, "GLIBC_2.3.2") \
+    X(pthread_cond_init, "GLIBC_2.3.2") X(pthread_cond_destroy, "GLIBC_2.3.2") X(sem_init, 0) X(sem_destroy, 0) X(sem_wait, 0) \
+    X(sem_trywait, 0) X(sem_timedwait, 0) X(sem_clockwait, 0) X(sem_post, 0) X(pthread_create, 0) X(pthread_join, 0) \
+    X(pthread_rwlock_rdlock, 0) X(pthread_rwlock_wrlock, 0) X(pthread_rwlock_tryrdlock, 0) X(pthread_rwlock_trywrlock, 0) \
+    X(pthread_rwlock_timedrdlock, 0) X(pthread_rwlock_timedwrlock, 0) X(pthread_rwlock_clockrdlock, 0) X(pthread_rwlock_clockwrlock, 0) \
+    X(pthread_rwlock_unlock, 0) X(pthread_rwlock_init, 0) X(pthread_rwlock_destroy, 0) \
+    X(pthread_barrier_wait, 0) X(pthread_spin_lock, 0) X(pthread_spin_trylock, 0) X(mtx_lock, 0) \
+    X(mtx_unlock, 0) X(mtx_trylock, 0) X(mtx_timedlock, 0) X(mtx_init, 0) X(mtx_destroy, 0) X(cnd_wait, 0) X(cnd_timedwait, 0) X(cnd_signal, 0) \
+    X(cnd_broadcast, 0) X(cnd_init, 0) X(cnd_destroy, 0) X(thrd_create, 0) X(thrd_join, 0) X(free, 0) X(malloc_usable_size, 0) X(syscall, 0) \
+    X(prctl, 0) X(close, 0) X(close_range, 0) X(closefrom, 0) X(dlopen, 0)
 #define CALL_NUMBER(name, version) R_##name,
 enum { CALLS(CALL_NUMBER) HOW_MANY };
 extern HIDDEN void *real[HOW_MANY];
@@ -108,6 +111,8 @@ extern HIDDEN void *real[HOW_MANY];
 /* ---- memory.c: memory that is given back with a mutex in it ---- */
 
 HIDDEN void note_mutex(const volatile void *mutex);
+extern HIDDEN int knows_sizes;
+HIDDEN void look_at_allocator(void);
 
 /* A call that has to wait. Where the thread is cancelled in it, that is recorded too. */
 struct blocking { const volatile void *object; uint32_t place; int open; };

@@ -2,32 +2,32 @@
 #include "library.h"
 #include <errno.h>
 
-static uint64_t recursive(const pthread_mutex_t *m) { return (m->__data.__kind & 3) == PTHREAD_MUTEX_RECURSIVE ? RECURSIVE : 0; }
+static uint64_t recursive_flag(const pthread_mutex_t *m) { return (m->__data.__kind & 3) == PTHREAD_MUTEX_RECURSIVE ? RECURSIVE : 0; }
 
 /* Whether the C library itself knows this thread as the owner, however it got the mutex. */
-static uint64_t owned(const pthread_mutex_t *m) {
+static uint64_t owner_flag(const pthread_mutex_t *m) {
     int owner = m->__data.__owner;
     return owner != 0 && (owner == me.owner || owner == me.owner_before_fork) ? OWNED : 0;
 }
 
-static int got(pthread_mutex_t *m, int result, uint64_t tried, uint32_t place) {
+static int note_lock(pthread_mutex_t *m, int result, uint64_t tried, uint32_t place) {
     if (result == 0 || result == EOWNERDEAD) {
         if (!me.owner) me.owner = m->__data.__owner;
         note_mutex(m);
-        put(LOCK, m, (uint64_t)result | recursive(m) | tried, place);
+        put(LOCK, m, (uint64_t)result | recursive_flag(m) | tried, place);
     } else if (tried && (result == EBUSY || result == ETIMEDOUT)) count(LEFT_TRY);
     return result;
 }
 
 /* `call` waits. */
-#define LOCKS(m, tried, place, call)                                     \
-    int result = REAL(pthread_mutex_trylock)(m);                         \
-    if (result == EBUSY) {                                               \
-        put(BLOCKED, m, FOR_MUTEX, place);                               \
-        result = call;                                                   \
+#define LOCKS(m, tried, place, call) \
+    int result = REAL(pthread_mutex_trylock)(m); \
+    if (result == EBUSY) { \
+        put(BLOCKED, m, FOR_MUTEX, place); \
+        result = call; \
         if (result != 0 && result != EOWNERDEAD) put(UNBLOCKED, m, 0, place); \
-    }                                                                    \
-    got(m, result, tried, place)
+    } \
+    note_lock(m, result, tried, place)
 
 int pthread_mutex_lock(pthread_mutex_t *m) {
     if (!begin()) return 0;
@@ -39,7 +39,7 @@ int pthread_mutex_lock(pthread_mutex_t *m) {
 int pthread_mutex_trylock(pthread_mutex_t *m) {
     if (!begin()) return 0;
     uint32_t place = place_of(FROM);
-    return got(m, REAL(pthread_mutex_trylock)(m), TRIED, place);
+    return note_lock(m, REAL(pthread_mutex_trylock)(m), TRIED, place);
 }
 
 int pthread_mutex_timedlock(pthread_mutex_t *m, const struct timespec *t) {
@@ -57,14 +57,14 @@ int pthread_mutex_clocklock(pthread_mutex_t *m, clockid_t clock, const struct ti
     return result;
 }
 
-static int gave(pthread_mutex_t *m, int (*call)(pthread_mutex_t *), uint32_t place) {
-    put(UNLOCK, m, owned(m), place);
+static int release(pthread_mutex_t *m, int (*call)(pthread_mutex_t *), uint32_t place) {
+    put(UNLOCK, m, owner_flag(m), place);
     int result = call(m);
     if (result) put(REFUSED, m, (uint64_t)result, place);
     return result;
 }
 
-int pthread_mutex_unlock(pthread_mutex_t *m) { return begin() ? gave(m, REAL(pthread_mutex_unlock), place_of(FROM)) : 0; }
+int pthread_mutex_unlock(pthread_mutex_t *m) { return begin() ? release(m, REAL(pthread_mutex_unlock), place_of(FROM)) : 0; }
 
 int pthread_mutex_init(pthread_mutex_t *m, const pthread_mutexattr_t *a) {
     if (!begin()) return 0;
@@ -85,7 +85,7 @@ int pthread_mutex_destroy(pthread_mutex_t *m) {
 struct waiting { pthread_mutex_t *mutex; uint32_t place; int result; };
 
 static struct waiting wait_begun(enum operation operation, pthread_cond_t *c, pthread_mutex_t *m, uint32_t place) {
-    put(operation, m, (uint64_t)c | (c->__data.__wrefs & 1 ? SHARED : 0) | owned(m), place);
+    put(operation, m, (uint64_t)c | (c->__data.__wrefs & 1 ? SHARED : 0) | owner_flag(m), place);
     return (struct waiting){ m, place, ECANCELED };
 }
 
@@ -137,15 +137,17 @@ int pthread_cond_destroy(pthread_cond_t *c) {
 
 /* ---- C11's threads: the same objects by other names ---- */
 
-static int of_c11(int result) { return result == thrd_success ? 0 : result == thrd_timedout ? ETIMEDOUT : result == thrd_busy ? EBUSY : EINVAL; }
+static int of_c11(int result) {
+    return result == thrd_success ? 0 : result == thrd_timedout ? ETIMEDOUT : result == thrd_busy ? EBUSY : EINVAL;
+}
 static pthread_mutex_t *mutex_of(mtx_t *m) { return (pthread_mutex_t *)m; }
 static pthread_cond_t *condition_of(cnd_t *c) { return (pthread_cond_t *)c; }
 
 /* `c11` gets what the call itself answers, or success where it wasn't needed. */
-#define LOCKS_C11(m, tried, call)                                                          \
-    uint32_t place = place_of(FROM);                                                       \
-    int c11 = thrd_success;                                                                \
-    LOCKS(mutex_of(m), tried, place, of_c11(c11 = call));                                  \
+#define LOCKS_C11(m, tried, call) \
+    uint32_t place = place_of(FROM); \
+    int c11 = thrd_success; \
+    LOCKS(mutex_of(m), tried, place, of_c11(c11 = call)); \
     return result == 0 ? thrd_success : c11 != thrd_success ? c11 : thrd_error
 
 int mtx_lock(mtx_t *m) {
@@ -162,11 +164,11 @@ int mtx_trylock(mtx_t *m) {
     begin();
     uint32_t place = place_of(FROM);
     int result = REAL(mtx_trylock)(m);
-    got(mutex_of(m), of_c11(result), TRIED, place);
+    note_lock(mutex_of(m), of_c11(result), TRIED, place);
     return result;
 }
 
-int mtx_unlock(mtx_t *m) { begin(); return gave(mutex_of(m), (int (*)(pthread_mutex_t *))REAL(mtx_unlock), place_of(FROM)); }
+int mtx_unlock(mtx_t *m) { begin(); return release(mutex_of(m), (int (*)(pthread_mutex_t *))REAL(mtx_unlock), place_of(FROM)); }
 int mtx_init(mtx_t *m, int kind) { begin(); put(MUTEX_INIT, m, 0, place_of(FROM)); return REAL(mtx_init)(m, kind); }
 void mtx_destroy(mtx_t *m) { begin(); uint32_t place = place_of(FROM); REAL(mtx_destroy)(m); put(MUTEX_GONE, m, 0, place); }
 
@@ -187,7 +189,10 @@ int cnd_timedwait(cnd_t *c, mtx_t *m, const struct timespec *t) {
 }
 
 int cnd_signal(cnd_t *c) { begin(); return signals(SIGNAL, condition_of(c), (int (*)(pthread_cond_t *))REAL(cnd_signal), place_of(FROM)); }
-int cnd_broadcast(cnd_t *c) { begin(); return signals(BROADCAST, condition_of(c), (int (*)(pthread_cond_t *))REAL(cnd_broadcast), place_of(FROM)); }
+int cnd_broadcast(cnd_t *c) {
+    begin();
+    return signals(BROADCAST, condition_of(c), (int (*)(pthread_cond_t *))REAL(cnd_broadcast), place_of(FROM));
+}
 int cnd_init(cnd_t *c) { begin(); put(COND_INIT, c, 0, place_of(FROM)); return REAL(cnd_init)(c); }
 void cnd_destroy(cnd_t *c) { begin(); uint32_t place = place_of(FROM); REAL(cnd_destroy)(c); put(COND_GONE, c, 0, place); }
 
@@ -196,7 +201,7 @@ void cnd_destroy(cnd_t *c) { begin(); uint32_t place = place_of(FROM); REAL(cnd_
 static int is_time(const struct timespec *t) { return t->tv_nsec >= 0 && t->tv_nsec < 1000000000; }
 
 /* Whether it was got without waiting. */
-static int took_at_once(sem_t *s, uint32_t place) {
+static int take_at_once(sem_t *s, uint32_t place) {
     int error = errno;
     if (REAL(sem_trywait)(s) == 0) {
         put(GOT, s, 0, place);
@@ -206,14 +211,14 @@ static int took_at_once(sem_t *s, uint32_t place) {
     return 0;
 }
 
-#define TAKES(s, good, call)                                      \
-    begin();                                                      \
-    uint32_t place = place_of(FROM);                              \
-    pthread_testcancel();                                         \
-    if ((good) && took_at_once(s, place)) return 0;               \
-    BLOCKING(s, FOR_SEMAPHORE, place);                            \
-    int result = call;                                            \
-    if (result == 0) blocking.open = 0, put(GOT, s, 0, place);    \
+#define TAKES(s, good, call) \
+    begin(); \
+    uint32_t place = place_of(FROM); \
+    pthread_testcancel(); \
+    if ((good) && take_at_once(s, place)) return 0; \
+    BLOCKING(s, FOR_SEMAPHORE, place); \
+    int result = call; \
+    if (result == 0) blocking.open = 0, put(GOT, s, 0, place); \
     return result
 
 int sem_wait(sem_t *s) { TAKES(s, 1, REAL(sem_wait)(s)); }

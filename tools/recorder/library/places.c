@@ -1,7 +1,7 @@
 /* Where a call comes from: its return address and those of its callers, as far as unwind tables give them.
  *
- * Unwinding costs some microseconds, so each lane remembers the places that it has seen. A place is taken from there where the call has the same
- * return address at the same height of the stack, and each further return address still stands where it was found. */
+ * Unwinding costs some microseconds, so each lane remembers the places that it has seen. A place is taken from there where the call has the
+ * same return address at the same height of the stack, and each further return address still stands where it was found. */
 #include "library.h"
 #include <errno.h>
 #include <link.h>
@@ -11,6 +11,7 @@
 #include <unwind.h>
 
 #define ENTRIES 128
+#define FAR 32768 /* from the call, in bytes of its stack: where other stacks come to the same place, they are as large */
 struct remembered {
     struct site site;
     int n; /* frames behind the first */
@@ -40,7 +41,7 @@ static struct remembered *new_memory(void) {
 void forget_places(struct lane *lane) {
     struct remembered *memory = lane->memory;
     if (!memory) return;
-    if (memory < memories[0] || memory >= memories[MEMORIES]) {
+    if (memory < memories[0] || memory >= memories[0] + MEMORIES * ENTRIES) {
         if (!is_provided()) munmap(memory, sizeof memories[0]);
     } else atomic_store(&taken[(memory - memories[0]) / ENTRIES], 0);
 }
@@ -52,7 +53,10 @@ void forget_all_places(void) {
 
 /* ---- unwinding ---- */
 
-struct trail { struct remembered *to; int own, found; };
+struct trail {
+    struct remembered *to;
+    int own, found;
+};
 
 static _Unwind_Reason_Code step(struct _Unwind_Context *context, void *of) {
     struct trail *trail = of;
@@ -63,7 +67,7 @@ static _Unwind_Reason_Code step(struct _Unwind_Context *context, void *of) {
         return ++trail->own > 10 ? _URC_END_OF_STACK : _URC_NO_REASON;
     }
     const uint64_t *stands = (const uint64_t *)frame - 1;
-    if (!address || *stands != address) return _URC_END_OF_STACK;
+    if (!address || frame - (uint64_t)to->site.frame > FAR || *stands != address) return _URC_END_OF_STACK;
     to->frames[to->n] = address, to->stands[to->n] = stands;
     return ++to->n == FRAMES - 1 ? _URC_END_OF_STACK : _URC_NO_REASON;
 }
@@ -86,7 +90,11 @@ static int note_loaded(struct dl_phdr_info *info, size_t size, void *of) {
     return 1;
 }
 
-struct module_text { char *at; size_t n, room; int segments; };
+struct module_text {
+    char *at;
+    size_t n, room;
+    int segments;
+};
 
 static int note_module(struct dl_phdr_info *info, size_t size, void *of) {
     struct module_text *text = of;
@@ -193,7 +201,8 @@ static int is_there(const struct remembered *r, struct site site) {
 uint32_t place_of(struct site site) {
     struct lane *lane = enter();
     if (!lane) return 0;
-    struct remembered *r = lane->memory ? &lane->memory[((uint64_t)site.from ^ (uint64_t)site.frame >> 4) * 0x9e3779b97f4a7c15ull >> 57] : NULL;
+    struct remembered *r =
+        lane->memory ? &lane->memory[((uint64_t)site.from ^ (uint64_t)site.frame >> 4) * 0x9e3779b97f4a7c15ull >> 57] : NULL;
     int found = r && is_there(r, site);
     lane->found += (uint32_t)found;
     uint32_t number = found ? r->number : new_place(lane, site);

@@ -1,4 +1,4 @@
-use Rattle.std.proofs.Common.{eqb, ◌≡◌, ℕ, rules, ap, sym, subst, ◌∙◌}
+use Rattle.std.proofs.Common.{arith, eqb, ◌≡◌, ℕ, rules, ap, sym, subst, ◌∙◌}
 use Rattle.larch_actions.specs.declared.event.Event.{Event}
 use Rattle.nub_rule.specs.Known.{Makes}
 use Rattle.nub_rule.specs.Plays.{test_alert_event}
@@ -21,6 +21,7 @@ stored g c =
 rest : (g : Over) (c : After-end_event g) → AtRest c.args.p.now c.end_event.new.me
 rest g c = record {
   of = search rules;
+  named = let e : c.end_event.new.me.number ≡ c.args.me.now.number = search rules in let low = c.requires.rest.named in omega arith;
   outside = record { spin = search rules; queue = search rules; owed = search rules; left = search rules; stand = search rules; pen = search rules; live = search rules };
   wait = search rules;
   raised = search rules;

@@ -1,4 +1,4 @@
-use Rattle.std.proofs.Common.{◌≡◌, ℕ, Some, None, false, rules, refl, inr, ap, sym, subst, ◌∙◌, slice_set}
+use Rattle.std.proofs.Common.{arith, ◌≡◌, ℕ, Some, None, false, rules, refl, inr, ap, sym, subst, ◌∙◌, slice_set}
 use Rattle.std.proofs.lemmas.List.{set-set}
 use mathlib.Core.Option.{some}
 use lib.ListN.{get_elem?}
@@ -63,6 +63,7 @@ rest g c =
     let values = ap (λ k. k.values) blocked ∙ (c.free.ensures.freed.1 ∙ ap (λ k. slice_set k.values m None) begun ∙ ap (λ k. slice_set k.values m None) put) in
     record {
       of = search rules;
+      named = let e : c.take_value.new.me.number ≡ c.args.me.now.number = search rules in let low = c.requires.rest.named in omega arith;
       outside = record { spin = search rules; queue = search rules; owed = search rules; left = search rules; stand = search rules; pen = search rules; live = search rules };
       wait = search rules;
       raised = search rules;

@@ -1,4 +1,4 @@
-use Rattle.std.proofs.Common.{ℕ, Some, None, rules, ap, subst, ◌∙◌, slice_set}
+use Rattle.std.proofs.Common.{arith, ◌≡◌, ℕ, Some, None, rules, ap, subst, ◌∙◌, slice_set}
 use Rattle.nub.specs.Rest.{AtRest}
 use Rattle.nub.proofs.Holding.{takes}
 use Rattle.nub.proofs.Without.{still_out}
@@ -15,6 +15,7 @@ rest g c =
     let x = taken.0 in
     record {
       of = search rules;
+      named = let e : c.take_value.new.me.number ≡ c.args.me.now.number = search rules in let low = c.requires.rest.named in omega arith;
       outside = record { spin = search rules; queue = search rules; owed = search rules; left = search rules; stand = search rules; pen = search rules; live = search rules };
       wait = search rules;
       raised = search rules;

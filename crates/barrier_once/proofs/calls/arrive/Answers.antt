@@ -2,7 +2,6 @@ use Rattle.std.proofs.Common.{◌+◌, Some, sym, ap, subst, ◌∙◌}
 use Rattle.std.proofs.lemmas.Option.{same_Some}
 use Rattle.nub.proofs.Users.{same_on}
 use Rattle.barrier_once.specs.declared.share.RoundShare.{RoundShare}
-use Rattle.barrier_once.specs.Calls.{IsOver}
 use Rattle.barrier_once.specs.Rounds.{passed_share}
 use Rattle.barrier_once.proofs.Visits.{arrived_at, at_bar, at_round, held_back}
 use Rattle.barrier_once.proofs.calls.arrive.Goals as goal
@@ -75,15 +74,3 @@ returns-clause-share g c = λ s mine.
     let bar = at_bar p at c.acquire-bar.result own.0 c.args.me.now c.acquire-bar.new.me c.requires.placed c.requires.world own.1 own.2 got.rest got.same got.holds got.share got.fits in
     let left = c.stay.ensures own.0 bar in
     left.share ∙ ap (λ u. Some (passed_share u)) (same_Some own.0 s (sym own.1 ∙ mine))
-
-pub returns-clause-round : goal.returns-clause-round
-returns-clause-round g c = λ s now.
-    let p = c.args.p.now in
-    let at = c.args.at.now in
-    let own = c.requires.share in
-    let got = c.acquire-bar.ensures in
-    let bar = at_bar p at c.acquire-bar.result own.0 c.args.me.now c.acquire-bar.new.me c.requires.placed c.requires.world own.1 own.2 got.rest got.same got.holds got.share got.fits in
-    let left = c.stay.ensures own.0 bar in
-    let round = at_round p.world c.acquire-bar.new.me.number c.acquire-bar.result own.0 bar.knows bar.may in
-    let answer = c.round-round.ensures ∙ sym round in
-    subst (λ n. IsOver p.world (n + 1) s) (sym answer) (subst (IsOver p.world (own.0.arrivals + 1)) (same_Some (passed_share own.0) s (sym left.share ∙ now)) left.round)

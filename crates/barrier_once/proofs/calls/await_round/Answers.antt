@@ -5,7 +5,7 @@ use Rattle.nub.proofs.Users.{same_on}
 use Rattle.barrier_once.specs.Cells.{round_of}
 use Rattle.barrier_once.specs.Calls.{HasLeft, waits}
 use Rattle.barrier_once.specs.Rounds.{Allowed, arrived_share}
-use Rattle.barrier_once.proofs.Visits.{at_round, gave_after, of_own, wait_over, waited, waited_on}
+use Rattle.barrier_once.proofs.Visits.{at_round, gave_after, of_own, waited, waited_on}
 use Rattle.barrier_once.proofs.calls.await_round.Goals as goal
 
 pub loop-init : goal.loop-init
@@ -61,15 +61,12 @@ returns-then-round g c = λ s b.
     let x = c.loop.seen in
     let gave = c.release.ensures in
     let own : inv.0 ≡ s = same_Some inv.0 s (sym inv.2.share ∙ b.share) in
-    let round = at_round w a.number c.args.bar inv.0 inv.2.knows inv.2.may in
-    let over : inv.0.arrivals + 1 ≤ round_of x = omega (arith, c.round-round.ensures, c.round.ensures, c.if-round.true) in
     subst (λ u. HasLeft c.args.p.now c.args.at.now u a e) own record {
       rest = gave.rest;
       same = same_on a c.loop.me e inn.same gave.same;
       ran = (waits a.number m o (suc inv.1), inr (inv.1, refl), gave_after m o (suc inv.1) a c.loop.me e inn.same inn.events gave.event);
       held = gave.held ∙ (ap (λ h. slice_set h m None) inn.held ∙ set-set a.held m (Some x) None);
       share = gave.share w (arrived_share inv.0) x (inn.same.world ∙ inv.2.world) inn.share inn.holds;
-      round = wait_over w a.number x inv.0 inn.knows inv.2.may over;
     }
 
 pub wait-seen-requires-in-loop-clause-rest : goal.wait-seen-requires-in-loop-clause-rest

@@ -2,7 +2,7 @@ use Rattle.std.proofs.Common.{[], ◌∷◌, None, slice_set, ap, ◌∙◌, ref
 use lib.ListN.{get_elem?}
 use Rattle.nub.proofs.Users.{same_on}
 use Rattle.nub_rule.specs.Plays.{event, broadcast_action}
-use Rattle.barrier_once.proofs.Visits.{last_over, woke_after}
+use Rattle.barrier_once.proofs.Visits.{woke_after}
 use Rattle.barrier_once.proofs.calls.pass_last.Goals as goal
 
 pub returns : goal.returns
@@ -20,5 +20,4 @@ returns g c = λ s b.
       ran = (event a.number (broadcast_action o []) ∷ [], inl refl, woke_after m o a z c.release.new.me told.same told.event gave.event);
       held = gave.held ∙ ap (λ h. slice_set h m None) told.held;
       share = gave.share w s c.args.bar (told.same.world ∙ b.world) (told.share ∙ b.share) (ap (λ h. get_elem? h m) told.held ∙ b.holds);
-      round = last_over w a.number c.args.bar s b.knows b.may;
     }

@@ -1,37 +1,51 @@
-use Rattle.std.proofs.Common.{◌≡◌, ℕ, [], ◌∷◌, ◌++◌, length, length-append, ap, sym, subst, ◌∙◌, arith}
+use Rattle.std.proofs.Common.{◌≡◌, ◌-◌, [], ◌∷◌, ◌++◌, length, length-append, append-nil, ap, sym, subst, ◌∙◌, arith}
 use Rattle.std.specs.Prelude.{is_ok, not, true}
-use Rattle.std.specs.List.{AllByRecursion}
-use Rattle.std.specs.Io.KnownBytes.{Consumes, prepend_known}
-use Rattle.firefly_outside.specs.Causes.{Rose}
-use Rattle.command_jobs.specs.JobLines.{IsLawful, line_text, lines_text}
-use Rattle.command_jobs.proofs.JobTexts.{all_append, lines_append}
-use Rattle.command_jobs.proofs.JobReasons.{consumes_trans, undecided}
+use Rattle.std.specs.List.{AllByRecursion, flat_map}
+use Rattle.std.specs.Io.KnownBytes.{Consumes}
+use Rattle.std.proofs.KnownBytes.{Consumes-trans}
+use Rattle.std.proofs.lemmas.List.Concat.{flat_map-append}
+use Rattle.exact_text.specs.Exact.{HasReason, lines_room}
+use Rattle.exact_text.specs.Intake.{rest_of}
+use Rattle.exact_text.proofs.LinesOf.{lines_reason, lines_whole, all_append}
+use Rattle.command_jobs.specs.JobLines.{IsJobs, IsLawful, line_text, most_lines}
+use Rattle.command_jobs.specs.JobReading.{job_code, job_is_line, some_job}
+use Rattle.command_jobs.proofs.JobTexts.{read_as, or_memory}
 use Rattle.command_jobs.proofs.job_read.read_jobs.Goals as goal
 
-pub loop-window-preserved : goal.loop-window-preserved
-loop-window-preserved g c =
-    let was = c.loop-window.invariant in
-    let line = c.in-Ok-Line.line in
-    let lines = c.loop-window.lines.items in
-    let taken = rw c.in-Ok-Line.field-0-is at c.in-Ok-Line.ensures.taken in
+pub loop-line-preserved : goal.loop-line-preserved
+loop-line-preserved g c =
+    let was = c.loop-line.invariant in
+    let line = c.in-Ok-Some.line in
+    let lines = c.loop-line.lines.items in
+    let e = c.in-Ok-Some.ensures in
+    let taken = rw c.in-Ok-Some.field-0-is at e.line in
+    let counted = rw c.in-Ok-Some.field-0-is at e.counted in
+    let room = rw c.in-Ok-Some.field-0-is at e.room in
     let ok : is_ok c.push.result ≡ true = c.is_err.ensures.negation ∙ ap not c.if-is_err.false in
     let items : c.push.new.self.items ≡ lines ++ line ∷ [] = rw ok at c.push.ensures.items in
+    let one : flat_map line_text (line ∷ []) ≡ line_text line = append-nil (line_text line) in
     record {
       lawful = subst (AllByRecursion IsLawful) (sym items) (all_append IsLawful lines (line ∷ []) was.lawful (taken.0, tt));
-      few = omega (arith, ap length items, length-append lines (line ∷ []), c.loop-window-test.true, c.len.ensures);
+      few = omega (arith, ap length items, length-append lines (line ∷ []), counted.0, was.counted);
+      counted = omega (arith, ap length items, length-append lines (line ∷ []), counted.1, was.counted);
+      room = omega (arith, ap length items, length-append lines (line ∷ []), room, was.room);
       consumed =
-          subst (Consumes (g.I.Source.left c.args.input.now) (prepend_known c.take_line.new.window (g.I.Source.left c.take_line.new.input))) (sym (ap lines_text items ∙ lines_append lines (line ∷ [])))
-          (consumes_trans (g.I.Source.left c.args.input.now) (prepend_known c.loop-window.window (g.I.Source.left c.loop-window.input)) _ (lines_text lines) (line_text line ++ 10 ∷ []) was.consumed taken.1);
-      unfailed = c.in-Ok-Line.ensures.unfailed ∙ was.unfailed;
+          subst (Consumes (g.I.Source.left c.args.input.now) (rest_of c.another_line.new.intake (g.I.Source.left c.another_line.new.input))) (sym (ap (flat_map line_text) items ∙ flat_map-append line_text lines (line ∷ []) ∙ ap (λ l. flat_map line_text lines ++ l) one))
+          (Consumes-trans (g.I.Source.left c.args.input.now) (rest_of c.loop-line.intake (g.I.Source.left c.loop-line.input)) _ (flat_map line_text lines) (line_text line) was.consumed taken.1);
+      unfailed = e.told.unfailed ∙ was.unfailed;
     }
 
 pub returns-in-Err-clause-fault : goal.returns-in-Err-clause-fault
 returns-in-Err-clause-fault g c =
-    let was = c.loop-window.invariant in
-    let t = c.in-Err.ensures.taken in
-    let few = c.loop-window-test.true in
-    let Risen : ℕ → Type 0 = λ n. Rose n (g.I.Source.faults c.take_line.new.input) in (
-      subst Risen was.unfailed t.rose,
-      undecided c.loop-window.lines.items was.lawful (g.I.Source.left c.args.input.now) (prepend_known c.loop-window.window (g.I.Source.left c.loop-window.input)) (g.I.Source.left c.take_line.new.input) t.given
-          was.consumed t.consumed (omega (arith, was.few)) t.open_line t.short (λ full. absurd (omega (arith, full, few, c.len.ensures))),
-    )
+    let was = c.loop-line.invariant in
+    let xs = c.loop-line.lines.items in
+    or_memory (HasReason IsJobs (lines_room most_lines) 0 (g.I.Source.left c.args.input.now) (g.I.Source.left c.another_line.new.input) (g.I.Source.faults c.args.input.now) (g.I.Source.faults c.another_line.new.input)) c.in-Err.fault
+    (lines_reason job_code (λ x h. (job_is_line x h).0) some_job (g.I.Source.left c.args.input.now) (rest_of c.loop-line.intake (g.I.Source.left c.loop-line.input)) (g.I.Source.left c.another_line.new.input) xs 100000 (100000 - c.loop-line.intake.lines) c.loop-line.intake.lines
+    _ _ _ c.in-Err.fault was.lawful was.consumed was.counted (omega (arith, was.few, was.counted)) was.unfailed c.in-Err.ensures.fault)
+
+pub returns-in-Ok-None-clause-lines : goal.returns-in-Ok-None-clause-lines
+returns-in-Ok-None-clause-lines g c =
+    let was = c.loop-line.invariant in
+    let end = rw c.in-Ok-None.field-0-is at c.in-Ok-None.ensures.end in
+    read_as (g.I.Source.left c.args.input.now) c.loop-line.lines.items was.lawful
+    (lines_whole job_code (λ x h. (job_is_line x h).0) some_job (g.I.Source.left c.args.input.now) (rest_of c.loop-line.intake (g.I.Source.left c.loop-line.input)) c.loop-line.lines.items was.consumed end.0)

@@ -1,5 +1,5 @@
-use Rattle.command_jobs.proofs.JobAnswered.{one_answer}
+use Rattle.command_jobs.proofs.JobTexts.{is_decided}
 use Rattle.command_jobs.proofs.laws.one_answer.Goals as goal
 
 pub returns : goal.returns
-returns c = one_answer
+returns c = is_decided

@@ -16,7 +16,7 @@ use Rattle.command_endings.specs.declared.status.Status.{Status}
 use Rattle.firefly.proofs.Places.{all_tell, first_tells, keeps, looks_many, owns, there}
 use Rattle.firefly.proofs.TreeLooks.{kept_own}
 use Rattle.indexer.specs.Once.{EachOnce}
-use Rattle.firefly.proofs.IndexRuns.{all_back, all_own, all_still, asked_once, failed_at, no_rise, shows_work}
+use Rattle.firefly.proofs.IndexRuns.{all_back, all_own, all_still, asked_once, failed_at, no_rise, shows_work, still_spared}
 use Rattle.firefly.proofs.index_run.index_by.Goals as goal
 
 pub index-requires-clause-trees : goal.index-requires-clause-trees
@@ -64,6 +64,7 @@ returns-in-Stopped g c =
       refused = subst (λ (s : Status). NoIndex o (looks_of look old) (looks_of look new) notes s) (sym c.ends.ensures.status) (n, w.0.1, subst (λ (q : Option Told). IfSome q (λ t. AreMany t o.directory File (n + 1))) (sym first) many, said);
       kept = λ ne. keeps look told old new c.requires.agree.1 (omega (arith, c.index.auto.trees)) (all_back S.tree S.may_fail S.faults S.calls (o.walkers + o.parsers) old new back);
       own = kept_own (looks_of look old) (looks_of look new) (keeps look told old new c.requires.agree.1 (omega (arith, c.index.auto.trees)) (all_back S.tree S.may_fail S.faults S.calls (o.walkers + o.parsers) old new back));
+      spared = still_spared S.tree S.may_fail S.faults S.calls o old new back.others;
     }
 
 pub returns-in-ReadFault : goal.returns-in-ReadFault
@@ -90,6 +91,7 @@ returns-in-ReadFault g c =
       refused = subst (λ (s : Status). NoIndex o (looks_of look old) (looks_of look new) notes s) (sym c.ends-in-ReadFault.ensures.status) (path, failed_at S.tree S.may_fail S.faults S.calls o old new path keep c.in-ReadFault.ensures.cause, said);
       kept = λ ne. keep;
       own = kept_own (looks_of look old) (looks_of look new) keep;
+      spared = still_spared S.tree S.may_fail S.faults S.calls o old new back.others;
     }
 
 pub returns-in-TooMany : goal.returns-in-TooMany
@@ -118,6 +120,7 @@ returns-in-TooMany g c =
       refused = subst (λ (s : Status). NoIndex o (looks_of look old) (looks_of look new) notes s) (sym c.ends-in-TooMany.ensures.status) (subst (λ (q : Option Told). IfSome q (λ t. AreMany t o.directory Dir (most_dirs + 1))) (sym first) many, c.ends-in-TooMany.ensures.notes);
       kept = λ ne. keeps look told old new c.requires.agree.1 (omega (arith, c.index.auto.trees)) (all_back S.tree S.may_fail S.faults S.calls (o.walkers + o.parsers) old new back);
       own = kept_own (looks_of look old) (looks_of look new) (keeps look told old new c.requires.agree.1 (omega (arith, c.index.auto.trees)) (all_back S.tree S.may_fail S.faults S.calls (o.walkers + o.parsers) old new back));
+      spared = still_spared S.tree S.may_fail S.faults S.calls o old new back.others;
     }
 
 pub returns-in-Memory : goal.returns-in-Memory
@@ -139,6 +142,7 @@ returns-in-Memory g c =
       refused = subst (λ (s : Status). NoIndex (options_of c.args.options.now) (looks_of look c.args.trees.now) (looks_of look c.index.new.trees) notes s) (sym c.ends-in-Memory.ensures.status) c.ends-in-Memory.ensures.notes;
       kept = λ ne. absurd (ne (ap (λ (s : Status). Err s) c.ends-in-Memory.ensures.status));
       own = owns look old new (omega (arith, c.index.auto.trees)) (all_own S.tree S.may_fail S.faults S.calls (o.walkers + o.parsers) old new left);
+      spared = still_spared S.tree S.may_fail S.faults S.calls o old new left.others;
     }
 
 pub returns-in-Done : goal.returns-in-Done
@@ -151,6 +155,7 @@ returns-in-Done g c =
     let new = c.index.new.trees in
     let enough = c.requires.enough in
     let plan = c.plan_by-plan.ensures.plan in
+    let lawful = c.plan_by-plan.ensures.lawful in
     let answer = index.Done c.in-Done.piece c.in-Done.closed in
     let w = subst (λ (p : Plan). says.IndexSays told o.directory p answer) plan (c.in-Done.ensures.says told (all_tell look told old c.requires.agree.1)) in
     let trees = subst (λ (p : Plan). says.TreesAfter S.tree S.may_fail S.faults S.calls p.walkers (p.walkers + p.parsers) old new answer) plan c.in-Done.ensures.trees in
@@ -158,11 +163,12 @@ returns-in-Done g c =
     record {
       is_index = subst (λ (q : Option Told). IfSome q (λ t. IsWhole t o.directory o.stop_after c.in-Done.piece)) (sym first) w.0;
       none_rose = no_rise S.tree S.may_fail S.faults S.calls old new (all_still S.tree S.may_fail S.faults S.calls o.walkers (o.walkers + o.parsers) c.in-Done.closed.threads old new trees.0 trees.1);
-      once = asked_once S.tree S.may_fail S.faults S.calls o told old new first (subst (λ (p : Plan). EachOnce S.calls told o.directory (p.walkers + p.parsers) old new answer) plan (c.in-Done.ensures.once told (all_tell look told old c.requires.agree.1)));
+      once = asked_once S.tree S.may_fail S.faults S.calls o told old new first (omega (arith, looks_many look old, lawful.walkers.1, lawful.parsers.1, ap (λ (p : Plan). p.walkers + p.parsers) plan)) (still_spared S.tree S.may_fail S.faults S.calls o old new trees.0.others) (subst (λ (p : Plan). EachOnce S.calls told o.directory (p.walkers + p.parsers) old new answer) plan (c.in-Done.ensures.once told (all_tell look told old c.requires.agree.1)));
       run = w.1;
       work = shows_work S.tree S.may_fail S.faults S.calls o c.args.traced c.in-Done.closed old new w.1 trees.1;
       quiet = refl;
       refused = tt;
       kept = λ ne. keeps look told old new c.requires.agree.1 (omega (arith, c.index.auto.trees)) (all_back S.tree S.may_fail S.faults S.calls (o.walkers + o.parsers) old new trees.0);
       own = kept_own (looks_of look old) (looks_of look new) (keeps look told old new c.requires.agree.1 (omega (arith, c.index.auto.trees)) (all_back S.tree S.may_fail S.faults S.calls (o.walkers + o.parsers) old new trees.0));
+      spared = still_spared S.tree S.may_fail S.faults S.calls o old new trees.0.others;
     }

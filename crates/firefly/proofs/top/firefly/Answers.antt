@@ -30,7 +30,7 @@ pub returns-in-Ok-Index : goal.returns-in-Ok-Index
 returns-in-Ok-Index g c =
     record {
       usage = λ none. absurd (none _ c.in-Ok-Index.ensures.said);
-      answers = λ t says. let k = rw c.in-Ok-Index.field-0-is at c.in-Ok-Index.ensures in answered t _ _ _ (k.only t says) (c.run_index.ensures.answers, (refl, refl));
+      answers = λ t says. let k = rw c.in-Ok-Index.field-0-is at c.in-Ok-Index.ensures in answered t _ _ _ (k.only t says) (c.run_index.ensures.answers, c.run_index.ensures.spared, (refl, refl));
       kept = c.run_index.ensures.kept;
       own = c.run_index.ensures.own;
     }
@@ -39,7 +39,7 @@ pub returns-in-Ok-Trace : goal.returns-in-Ok-Trace
 returns-in-Ok-Trace g c =
     record {
       usage = λ none. absurd (none _ c.in-Ok-Trace.ensures.said);
-      answers = λ t says. let k = rw c.in-Ok-Trace.field-0-is at c.in-Ok-Trace.ensures in answered t _ _ _ (k.only t says) (c.run_trace.ensures.answers, (refl, refl));
+      answers = λ t says. let k = rw c.in-Ok-Trace.field-0-is at c.in-Ok-Trace.ensures in answered t _ _ _ (k.only t says) (c.run_trace.ensures.answers, c.run_trace.ensures.spared, (refl, refl));
       kept = c.run_trace.ensures.kept;
       own = c.run_trace.ensures.own;
     }

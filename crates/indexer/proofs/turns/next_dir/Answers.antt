@@ -13,7 +13,7 @@ pub give_list-requires-clause-has : goal.give_list-requires-clause-has
 give_list-requires-clause-has g c =
     let had = c.loop.invariant in
     let ys = c.take_dir.new.list.waiting.items in
-    let gone = sym had.2.waiting ∙ c.in-Now.ensures in
+    let gone = sym had.2.waiting ∙ c.in-Now.ensures.waiting in
     (c.args.me.now, had.0, had.1, take_moves (waiting_of had.0) ys (option_to_list c.in-Now.dir) _ had.1.own gone, take_counts had.0 _ (option_to_list c.in-Now.dir) had.1.own gone had.2.dirs had.2.files)
 
 pub returns-in-Now-clause-called : goal.returns-in-Now-clause-called
@@ -23,13 +23,13 @@ pub returns-in-Now-clause-gets : goal.returns-in-Now-clause-gets
 returns-in-Now-clause-gets g c =
     let had = c.loop.invariant in
     let ys = c.take_dir.new.list.waiting.items in
-    gets_as c.args.p.now _ (moved_more (option_to_list c.in-Now.dir) []) c.args.me.now c.give_list.new.me (take_more (waiting_of had.0) ys (option_to_list c.in-Now.dir) (sym had.2.waiting ∙ c.in-Now.ensures)) (c.give_list.ensures.gets c.args.me.now had.0 had.1)
+    gets_as c.args.p.now _ (moved_more (option_to_list c.in-Now.dir) []) c.args.me.now c.give_list.new.me (take_more (waiting_of had.0) ys (option_to_list c.in-Now.dir) (sym had.2.waiting ∙ c.in-Now.ensures.waiting)) (c.give_list.ensures.gets c.args.me.now had.0 had.1)
 
 pub returns-in-Now-clause-new : goal.returns-in-Now-clause-new
 returns-in-Now-clause-new g c =
     let had = c.loop.invariant in
     let ys = c.take_dir.new.list.waiting.items in
-    new_dir_of c.args.p.now c.args.me.now c.loop.me had.0 had.1 c.in-Now.dir (new_dir c.args.p.now.world had.0 had.1.own ys c.in-Now.dir had.1.kind had.1.new (sym had.2.waiting ∙ c.in-Now.ensures))
+    new_dir_of c.args.p.now c.args.me.now c.loop.me had.0 had.1 c.in-Now.dir (new_dir c.args.p.now.world had.0 had.1.own ys c.in-Now.dir had.1.kind had.1.new (sym had.2.waiting ∙ c.in-Now.ensures.waiting))
 
 pub wait_for_dirs-outcome-requires-clause-has : goal.wait_for_dirs-outcome-requires-clause-has
 wait_for_dirs-outcome-requires-clause-has g c =
@@ -37,7 +37,7 @@ wait_for_dirs-outcome-requires-clause-has g c =
       c.args.me.now,
       had.0,
       had.1,
-      record { waiting = sym (sym had.2.waiting ∙ (c.in-Wait.ensures ∙ append-nil c.take_dir.new.list.waiting.items)); dirs = had.2.dirs; files = had.2.files },
+      record { waiting = sym (sym had.2.waiting ∙ (c.in-Wait.ensures.waiting ∙ append-nil c.take_dir.new.list.waiting.items)); dirs = had.2.dirs; files = had.2.files },
     )
 
 pub give_list-requires-then-eq-clause-has : goal.give_list-requires-then-eq-clause-has

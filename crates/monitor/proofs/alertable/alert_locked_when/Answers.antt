@@ -1,12 +1,12 @@
-use Rattle.std.proofs.Common.{◌≡◌, ℕ, List, [], ◌∷◌, ◌++◌, Some, rules, sym, subst, ◌∙◌}
-use Rattle.std.specs.Fn.{FnOnceReturnsAtMut}
+use Rattle.std.proofs.Common.{◌≡◌, ℕ, false, List, [], ◌∷◌, ◌++◌, Some, rules, sym, subst, ◌∙◌}
+use Rattle.std.specs.Fn.{FnOnceReturnsAtMut, FnReturnsAt}
 use Rattle.larch_actions.specs.declared.event.Event.{Event}
 use Rattle.nub_rule.specs.Plays.{acquire_event, release_event}
 use Rattle.nub.specs.Rest.{Adds}
 use Rattle.nub.proofs.Holding.{held_back}
 use Rattle.nub.proofs.Users.{same_on}
 use Rattle.alert_wait.specs.declared.outcome.Outcome.{Outcome}
-use Rattle.monitor.specs.Waits.{alert_waits, last_wait}
+use Rattle.monitor.specs.Waits.{AreRefused, alert_waits, all_waits, last_wait}
 use Rattle.monitor.proofs.Having.{HasBack, fits_before, gave, has_on, may_release, stays_after, took}
 use Rattle.monitor.proofs.alertable.alert_locked_when.Given.{Over}
 use Rattle.monitor.proofs.alertable.alert_locked_when.Goals.{After-alert_wait_until-outcome}
@@ -71,6 +71,7 @@ release-requires-in-Alerted-clause-may g c κs within =
     (c.requires.stays x)
 
 pub returns-in-Returned : goal.returns-in-Returned
+unfolding back
 returns-in-Returned g c =
     let m = c.args.m.0 in
     let w = c.args.p.now.world in
@@ -89,7 +90,7 @@ returns-in-Returned g c =
     record {
       rest = r.rest;
       same = same_on a d e h.same r.same;
-      event = (has.0, subst (λ (o : Outcome). Adds (es o) (release_event a.number m) a e) c.in-Returned.is ran);
+      event = (has.0, subst (λ (o : Outcome). Adds (es o) (release_event a.number m) a e) c.in-Returned.is ran, subst (λ (o : Outcome). AreRefused (λ x. FnReturnsAt g.T.Fn c.args.test.now x false) (all_waits o has.0)) c.in-Returned.is c.alert_wait_until-outcome.ensures.event.2.all);
       held = held_back a d e m x c.requires.lacks h.held r.held;
       alerted = λ none. absurd (cc);
       answer = (
@@ -109,6 +110,7 @@ returns-in-Returned g c =
     }
 
 pub returns-in-Alerted : goal.returns-in-Alerted
+unfolding back
 returns-in-Alerted g c =
     let m = c.args.m.0 in
     let a = c.args.me.now in
@@ -124,7 +126,7 @@ returns-in-Alerted g c =
     record {
       rest = r.rest;
       same = same_on a d e h.same r.same;
-      event = (has.0, subst (λ (o : Outcome). Adds (es o) (release_event a.number m) a e) c.in-Alerted.is ran);
+      event = (has.0, subst (λ (o : Outcome). Adds (es o) (release_event a.number m) a e) c.in-Alerted.is ran, subst (λ (o : Outcome). AreRefused (λ x. FnReturnsAt g.T.Fn c.args.test.now x false) (all_waits o has.0)) c.in-Alerted.is c.alert_wait_until-outcome.ensures.event.2.all);
       held = held_back a d e m x c.requires.lacks h.held r.held;
       alerted = λ none. r.share c.args.p.now.world own.0 x (h.same.world ∙ c.requires.world) (h.share ∙ own.1) h.holds ∙ sym own.1;
       answer = tt;

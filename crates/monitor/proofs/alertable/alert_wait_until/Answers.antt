@@ -1,4 +1,5 @@
-use Rattle.std.proofs.Common.{◌≡◌, ℕ, zero, suc, true, List, [], ◌∷◌, ◌++◌, sym, subst, ◌∙◌, append-nil}
+use Rattle.std.proofs.Common.{◌≡◌, ℕ, zero, suc, true, false, List, [], ◌∷◌, ◌++◌, sym, subst, ◌∙◌, append-nil}
+use Rattle.std.specs.Fn.{FnReturnsAt}
 use Rattle.std.proofs.lemmas.Fn.{says_at}
 use Rattle.larch_actions.specs.declared.event.Event.{Event}
 use Rattle.nub_rule.specs.Plays.{enqueue_event}
@@ -6,8 +7,8 @@ use Rattle.nub.specs.Rest.{Added}
 use Rattle.alert_wait.specs.declared.outcome.Outcome.{Outcome}
 use Rattle.alert_wait.specs.declared.outcome.Outcome.TheVariants.{Alerted, Returned}
 use Rattle.alert_wait.specs.Outcomes.{wait_end}
-use Rattle.monitor.specs.Waits.{alert_waits, last_wait}
-use Rattle.monitor.proofs.Having.{HasBack, alert_waits_more, has_on, has_yet, holds_again, may_release, waited}
+use Rattle.monitor.specs.Waits.{IsRefused, alert_waits, last_wait}
+use Rattle.monitor.proofs.Having.{HasBack, alert_waits_more, has_on, has_yet, holds_again, may_release, none_refused, one_refused, waited}
 use Rattle.monitor.proofs.alertable.alert_wait_until.Given.{Over}
 use Rattle.monitor.proofs.alertable.alert_wait_until.Goals.{After-alert_wait-outcome}
 use Rattle.monitor.proofs.alertable.alert_wait_until.Goals as goal
@@ -44,8 +45,12 @@ ended g c is =
     let d = c.args.c.0 in
     subst (λ (o : Outcome). HasBack g.U.Uses.fits c.args.p.now m (alert_waits t m d c.loop.invariant.0 ++ enqueue_event true t m d ∷ wait_end o t m d ∷ []) c.alert_wait-outcome.result.1 c.args.me.now c.alert_wait-outcome.new.me) is (once g c)
 
+-- the value in hand was refused, too
+refused : (g : Over) (c : After-alert_wait-outcome g) → FnReturnsAt g.T.Fn c.args.test.now c.loop.value false → IsRefused (λ x. FnReturnsAt g.T.Fn c.args.test.now x false) c.args.got (suc c.loop.invariant.0) c.alert_wait-outcome.result.1
+refused g c = one_refused (λ x. FnReturnsAt g.T.Fn c.args.test.now x false) c.args.got c.loop.invariant.0 c.loop.value c.alert_wait-outcome.result.1 c.loop.invariant.2
+
 pub loop-init : goal.loop-init
-loop-init g c = (zero, has_yet g.U.Uses.fits c.args.p.now c.args.m.0 c.args.got c.args.me.now c.requires.rest c.requires.holds c.requires.fits)
+loop-init g c = (zero, has_yet g.U.Uses.fits c.args.p.now c.args.m.0 c.args.got c.args.me.now c.requires.rest c.requires.holds c.requires.fits, none_refused (λ x. FnReturnsAt g.T.Fn c.args.test.now x false) c.args.got)
 
 pub alert_wait-outcome-requires-clause-rest : goal.alert_wait-outcome-requires-clause-rest
 alert_wait-outcome-requires-clause-rest g c κs within = c.loop.invariant.1.rest
@@ -62,8 +67,11 @@ loop-preserved g c =
     let d = c.args.c.0 in
     let k = c.loop.invariant.0 in
     let is : c.alert_wait-outcome.result.0 ≡ Returned = c.in-Returned.is in
-    let on = subst (λ (o : Outcome). HasBack g.U.Uses.fits c.args.p.now m (alert_waits t m d k ++ enqueue_event true t m d ∷ wait_end o t m d ∷ []) c.alert_wait-outcome.result.1 c.args.me.now c.alert_wait-outcome.new.me) is (once g (goal.at.loop-preserved g c).After-alert_wait-outcome) in
-    (suc k, subst (λ (l : List Event). HasBack g.U.Uses.fits c.args.p.now m l c.alert_wait-outcome.result.1 c.args.me.now c.alert_wait-outcome.new.me) (alert_waits_more t m d k) on)
+    let on = subst (λ (o : Outcome). HasBack g.U.Uses.fits c.args.p.now m (alert_waits t m d k ++ enqueue_event true t m d ∷ wait_end o t m d ∷ []) c.alert_wait-outcome.result.1 c.args.me.now c.alert_wait-outcome.new.me) is (once g (goal.at.loop-preserved g c).After-alert_wait-outcome) in (
+      suc k,
+      subst (λ (l : List Event). HasBack g.U.Uses.fits c.args.p.now m l c.alert_wait-outcome.result.1 c.args.me.now c.alert_wait-outcome.new.me) (alert_waits_more t m d k) on,
+      refused g (goal.at.loop-preserved g c).After-alert_wait-outcome (says_at g.T.Fn c.test.ensures c.if-test.false),
+    )
 
 pub returns-then-test : goal.returns-then-test
 returns-then-test g c =
@@ -75,7 +83,7 @@ returns-then-test g c =
       tested = λ is. says_at g.T.Fn c.test.ensures c.if-test.true;
       rest = h.rest;
       same = h.same;
-      event = (k, subst P (sym (append-nil es)) h.events);
+      event = (k, subst P (sym (append-nil es)) h.events, c.loop.invariant.2);
       holds = h.holds;
       held = h.held;
       share = h.share;
@@ -94,7 +102,7 @@ returns-in-Alerted g c =
       tested = λ is. absurd (cc);
       rest = h.rest;
       same = h.same;
-      event = (k, h.events);
+      event = (k, h.events, refused g (goal.at.returns-in-Alerted g c).After-alert_wait-outcome (says_at g.T.Fn c.test.ensures c.if-test.false));
       holds = h.holds;
       held = h.held;
       share = h.share;

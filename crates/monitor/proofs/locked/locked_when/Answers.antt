@@ -55,11 +55,12 @@ release-requires-clause-may g c κs within =
     (λ s own fit. c.requires.may x y c.f-answer.result s own fit c.wait_until-value.ensures.tested returns)
 
 pub returns-clause-event : goal.returns-clause-event
+unfolding back
 returns-clause-event g c =
     let m = c.args.m.0 in
     let a = c.args.me.now in
     let has = back g (goal.at.returns-clause-event g c).After-wait_until-value in
-    (has.0, gave g.U.Uses.fits c.args.p.now m (acquire_event a.number m ∷ waits a.number m c.args.c.0 has.0) c.wait_until-value.result a c.wait_until-value.new.me c.release.new.me has.1 c.release.ensures.event)
+    (has.0, gave g.U.Uses.fits c.args.p.now m (acquire_event a.number m ∷ waits a.number m c.args.c.0 has.0) c.wait_until-value.result a c.wait_until-value.new.me c.release.new.me has.1 c.release.ensures.event, c.wait_until-value.ensures.event.2.all)
 
 pub returns-clause-held : goal.returns-clause-held
 returns-clause-held g c =

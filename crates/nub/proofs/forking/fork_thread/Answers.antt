@@ -1,4 +1,4 @@
-use Rattle.std.proofs.Common.{◌≡◌, ℕ, ap, ap₂, sym, subst, ◌∙◌}
+use Rattle.std.proofs.Common.{◌≡◌, ◌<◌, ℕ, ap, ap₂, sym, subst, ◌∙◌}
 use Rattle.std.proofs.lemmas.Option.{same_Some}
 use lib.ListN.{get_elem?}
 use Rattle.larch_actions.specs.declared.event.Event.{Event}
@@ -65,6 +65,7 @@ rest g c =
     let stored = stored_by c.args.p.now.traced c.take_right-body.new.me c.begin_event.new.me c.fork_life.new.me c.end_event.new.me (fork_event c.number-2.result c.number.result) c.begin_event.ensures.pen c.begin_event.ensures.traced c.begin_event.ensures.number (made-at-last g c) (ap (λ k. k.next) f) (ap (λ k. k.entries) f) (ap (λ k. k.lost) f) c.end_event.ensures.rest c.end_event.ensures.stored (has-at-last g c) in
     record {
       of = (ap (λ k. k.table_id) c.hand_out.ensures.child ∙ (ap (λ k. k.table_id) c.end_event.ensures.rest ∙ (ap (λ k. k.table_id) c.fork_life.ensures.forked ∙ (ap (λ k. k.table_id) c.begin_event.ensures.pen ∙ (ap (λ k. k.table_id) c.take_right-body.ensures.child))))) ∙ c.requires.rest.of;
+      named = subst (λ (n : ℕ). n < c.args.p.now.layout.threads) (sym (ap (λ k. k.number) c.hand_out.ensures.child ∙ (ap (λ k. k.number) c.end_event.ensures.rest ∙ (ap (λ k. k.number) c.fork_life.ensures.forked ∙ (ap (λ k. k.number) c.begin_event.ensures.pen ∙ ap (λ k. k.number) c.take_right-body.ensures.child))))) c.requires.rest.named;
       outside = record { spin = (ap (λ k. k.spin) c.hand_out.ensures.child ∙ (ap (λ k. k.spin) c.end_event.ensures.rest ∙ (ap (λ k. k.spin) c.fork_life.ensures.forked ∙ (ap (λ k. k.spin) c.begin_event.ensures.pen ∙ (ap (λ k. k.spin) c.take_right-body.ensures.child))))) ∙ c.requires.rest.outside.spin; queue = (ap (λ k. k.queue) c.hand_out.ensures.child ∙ (ap (λ k. k.queue) c.end_event.ensures.rest ∙ (ap (λ k. k.queue) c.fork_life.ensures.forked ∙ (ap (λ k. k.queue) c.begin_event.ensures.pen ∙ (ap (λ k. k.queue) c.take_right-body.ensures.child))))) ∙ c.requires.rest.outside.queue; owed = (ap (λ k. k.owed) c.hand_out.ensures.child ∙ (ap (λ k. k.owed) c.end_event.ensures.rest ∙ (ap (λ k. k.owed) c.fork_life.ensures.forked ∙ (ap (λ k. k.owed) c.begin_event.ensures.pen ∙ (ap (λ k. k.owed) c.take_right-body.ensures.child))))) ∙ c.requires.rest.outside.owed; left = (ap (λ k. k.left) c.hand_out.ensures.child ∙ (ap (λ k. k.left) c.end_event.ensures.rest ∙ (ap (λ k. k.left) c.fork_life.ensures.forked ∙ (ap (λ k. k.left) c.begin_event.ensures.pen ∙ (ap (λ k. k.left) c.take_right-body.ensures.child))))) ∙ c.requires.rest.outside.left; stand = (ap (λ k. k.stand) c.hand_out.ensures.child ∙ (ap (λ k. k.stand) c.end_event.ensures.rest ∙ (ap (λ k. k.stand) c.fork_life.ensures.forked ∙ (ap (λ k. k.stand) c.begin_event.ensures.pen ∙ (ap (λ k. k.stand) c.take_right-body.ensures.child))))) ∙ c.requires.rest.outside.stand; pen = ap (λ k. k.pen) c.hand_out.ensures.child ∙ ap (λ k. k.pen) c.end_event.ensures.rest; live = (ap (λ k. k.life) c.hand_out.ensures.child ∙ (ap (λ k. k.life) c.end_event.ensures.rest ∙ (ap (λ k. k.life) c.fork_life.ensures.forked ∙ (ap (λ k. k.life) c.begin_event.ensures.pen ∙ (ap (λ k. k.life) c.take_right-body.ensures.child))))) ∙ c.requires.rest.outside.live };
       wait = (ap (λ k. k.wait) c.hand_out.ensures.child ∙ (ap (λ k. k.wait) c.end_event.ensures.rest ∙ (ap (λ k. k.wait) c.fork_life.ensures.forked ∙ (ap (λ k. k.wait) c.begin_event.ensures.pen ∙ (ap (λ k. k.wait) c.take_right-body.ensures.child))))) ∙ c.requires.rest.wait;
       raised = (ap (λ k. k.raised) c.hand_out.ensures.child ∙ (ap (λ k. k.raised) c.end_event.ensures.rest ∙ (ap (λ k. k.raised) c.fork_life.ensures.forked ∙ (ap (λ k. k.raised) c.begin_event.ensures.pen ∙ (ap (λ k. k.raised) c.take_right-body.ensures.child))))) ∙ c.requires.rest.raised;
@@ -96,6 +97,12 @@ returns-clause-event g c =
     (ap (λ k. k.seen) c.hand_out.ensures.child ∙ ap (λ k. k.seen) c.end_event.ensures.rest)
     (ap (λ k. k.mine) c.hand_out.ensures.child ∙ ap (λ k. k.mine) c.end_event.ensures.rest)
 
+pub take_right-body-requires-clause-live : goal.take_right-body-requires-clause-live
+take_right-body-requires-clause-live g c κs within = c.requires.rest.outside.live
+
+pub returns-clause-apart : goal.returns-clause-apart
+returns-clause-apart g c e = c.fork_life.ensures.apart (c.number.ensures ∙ (e ∙ sym (ap (λ k. k.number) c.begin_event.ensures.pen ∙ ap (λ k. k.number) c.take_right-body.ensures.child)))
+
 pub returns-clause-idle : goal.returns-clause-idle
 returns-clause-idle g c = λ n s i. idle_again c.args.p.now n s s c.args.me.now c.hand_out.new.me i (rest g (goal.at.returns-clause-idle g c).After-hand_out)
     record { number = ap (λ k. k.number) c.hand_out.ensures.child ∙ (ap (λ k. k.number) c.end_event.ensures.rest ∙ (ap (λ k. k.number) c.fork_life.ensures.forked ∙ (ap (λ k. k.number) c.begin_event.ensures.pen ∙ (ap (λ k. k.number) c.take_right-body.ensures.child)))); world = ap (λ k. k.world) c.hand_out.ensures.child ∙ (ap (λ k. k.world) c.end_event.ensures.rest ∙ (ap (λ k. k.world) c.fork_life.ensures.forked ∙ (ap (λ k. k.world) c.begin_event.ensures.pen ∙ (ap (λ k. k.world) c.take_right-body.ensures.child)))) }
@@ -111,7 +118,7 @@ begun g c =
     let h = c.hand_out.ensures.child in
     let body = c.take_right-body.ensures.body ∙ ap (λ k. k.number) c.into_thread.ensures.same in
     let seen = ap (λ k. k.seen) c.end_event.ensures.rest in
-    begun_is c.args.p.now g.U.Uses.begin c.args.child.number c.hand_out.new.me c.hand_out.result c.hand_out.ensures.few (rest g c).version
+    begun_is c.args.p.now g.U.Uses.begin c.args.child.number c.hand_out.new.me c.hand_out.result c.requires.named c.hand_out.ensures.few (rest g c).version
     (c.hand_out.ensures.thread c.fork_life.new.me.seen (forked-at-last g c)
     ∙ (λ j. newborn_known c.args.p.now.table_id (ap (λ k. k.version) (sym h) j) (ap (λ k. k.world) (sym h) j) g.U.Uses.begin (body j) ((sym seen ∙ ap (λ k. k.seen) (sym h)) j)))
 

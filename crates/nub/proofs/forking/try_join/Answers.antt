@@ -1,4 +1,4 @@
-use Rattle.std.proofs.Common.{ℕ, rules, ap, sym, subst, ◌∙◌}
+use Rattle.std.proofs.Common.{arith, ◌≡◌, ℕ, rules, ap, sym, subst, ◌∙◌}
 use Rattle.larch_actions.specs.declared.event.Event.{Event}
 use Rattle.nub_rule.specs.Known.{Makes}
 use Rattle.nub_rule.specs.Plays.{join_event}
@@ -13,6 +13,7 @@ returns-then-read_life-eq2-clause-rest g c =
     let makes = subst (λ (x : Event). Makes x c.begin_event.new.me c.read_life.new.me) same (c.read_life.ensures.event c.if-read_life-eq2.true) in
     record {
       of = search rules;
+      named = let e : c.end_event.new.me.number ≡ c.args.me.now.number = search rules in let low = c.requires.rest.named in omega arith;
       outside = record { spin = search rules; queue = search rules; owed = search rules; left = search rules; stand = search rules; pen = search rules; live = search rules };
       wait = search rules;
       raised = search rules;

@@ -19,6 +19,6 @@ join_seat-requires g c =
       ap (λ k. k.table_id) v ∙ (c.requires.from ∙ of),
       no_slots own.part c.child.inside.seat.me.1 c.child.invariant.hands c.child.invariant.below c.child.invariant.wide (ap (λ k. k.spin) u) (λ n x h. none-got 64 n x (ap (λ k. get_elem? k.held n) (sym u) ∙ h)),
       omega arith,
-      takes _ _ _ _ _ _ _ _ _ c.me.invariant.member (ap (λ k. k.child) m ∙ c.requires.free) c.child.invariant.member (ap (λ k. k.child) u)
+      takes _ _ _ _ _ _ _ _ _ c.me.invariant.member (ap (λ k. k.life) m ∙ c.requires.live) (ap (λ k. k.child) m ∙ c.requires.free) c.child.invariant.member (ap (λ k. k.child) u)
           (ap (λ k. part_of k) u ∙ sym (λ i. unborn (ap (λ k. k.version) v i) (begun g.U.Uses.begin ((c.child.invariant.numbered ∙ ap (λ k. k.number) v) i) (ap (λ k. k.world) u i)))),
     )

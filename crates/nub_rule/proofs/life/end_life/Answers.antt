@@ -3,8 +3,9 @@ use lib.ListN.{get_elem?}
 use Rattle.larch_actions.specs.declared.event.Life.{Life}
 use Rattle.larch_actions.specs.declared.event.Life.TheVariants.{Ended}
 use Rattle.nub_rule.specs.declared.view.Pen.{Pen}
-use Rattle.nub_rule.specs.Known.{known_as}
-use Rattle.nub_rule.specs.Parts.{made, MayTell}
+use Rattle.nub_rule.specs.declared.view.Part.{Part}
+use Rattle.nub_rule.specs.Known.{known_as, part_of}
+use Rattle.nub_rule.specs.Parts.{HasNothing, made, MayTell}
 use Rattle.nub_rule.specs.Places.{life_at}
 use Rattle.nub_rule.specs.Plays.{end_event}
 use Rattle.nub_rule.proofs.Seen.{as_known}
@@ -18,7 +19,7 @@ store-requires-clause-inside g c κs within = let low = c.me.invariant.few in le
 pub store-requires-clause-allowed : goal.store-requires-clause-allowed
 store-requires-clause-allowed g c κs within = let i = c.me.invariant in let traces : c.p.inside.table.shared.key.traced ≡ c.args.p.now.traced = ap (λ s. s.traced) c.p.view_is in
     end_life_keeps _ _ _ _ _ _ _ c.me.inside.seat.me _ (c.life_word.ensures ∙ ap life_at (sym i.numbered)) (ap (λ s. s.layout.version) c.p.view_is ∙ c.requires.version) i.member
-    (λ m x got. c.requires.holds m x (ap (λ k. get_elem? k.held m) (sym c.me.view_is) ∙ got)) (ap (λ k. k.wait) c.me.view_is ∙ c.requires.outside)
+    (subst (λ (z : Part g.row.U-Value.Denot g.row.U-Share.Denot). HasNothing z) (ap (λ k. part_of k) (sym c.me.view_is)) c.requires.nothing) (ap (λ k. k.child) c.me.view_is ∙ c.requires.childless)
     (subst (λ (z : Bool × Life × Pen). MayTell z.0 z.1 z.2) (λ j. (sym traces j, ap (λ k. k.life) (sym c.me.view_is) j, ap (λ k. k.pen) (sym c.me.view_is) j)) c.requires.pen)
 
 pub invariant_of-me : goal.invariant_of-me

@@ -20,7 +20,7 @@ compare_exchange-found-requires-clause-inside g c κs within = let low = object_
 
 pub compare_exchange-found-requires-clause-allowed : goal.compare_exchange-found-requires-clause-allowed
 compare_exchange-found-requires-clause-allowed g c κs within = let low = object_low _ _ _ _ c.p.view_is c.p.invariant.laid_out c.p.invariant.lawful c.args.at c.requires.named in let is = c.number-o.ensures in
-    let word = c.spin_word.ensures in take_spin_keeps _ _ _ _ _ _ _ (object_of c.args.at) _ _ word (omega arith) (search rules) (search rules)
+    let word = c.spin_word.ensures in take_spin_keeps _ _ _ _ _ _ _ (object_of c.args.at) _ _ word (omega arith) c.me.invariant.member (ap (λ k. k.life) c.me.view_is ∙ c.requires.live) (ap (λ k. k.spin) c.me.view_is ∙ c.requires.outside)
 
 pub take-requires : goal.take-requires
 take-requires g c = let low = object_low _ _ _ _ c.p.view_is c.p.invariant.laid_out c.p.invariant.lawful c.args.at c.requires.named in let is = c.number-o.ensures in

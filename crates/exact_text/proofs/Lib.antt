@@ -1,0 +1,12 @@
+pub mod Words
+pub mod CodeLaws
+pub mod Numbers
+pub mod Choices
+pub mod Pieces
+pub mod Told
+pub mod Filled
+pub mod Grammar
+pub mod Flat
+pub mod Stuck
+pub mod Shown
+pub mod LinesOf

@@ -1,0 +1,9 @@
+use Rattle.std.proofs.Common.{◌≡◌, ◌^◌, length}
+use Rattle.exact_text.specs.Reading.{digits_at, number_at}
+use Rattle.exact_text.proofs.token.long_number.Given as goal
+
+abbrev pub invariant-loop-rest : goal.invariant-loop-rest
+invariant-loop-rest l = digits_at (2 ^ 64) l.stop l.value l.rest ≡ number_at l.least (2 ^ 64) l.stop l.bytes
+
+abbrev pub decreases-loop-rest : goal.decreases-loop-rest
+decreases-loop-rest l = length l.rest

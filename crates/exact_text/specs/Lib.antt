@@ -1,0 +1,6 @@
+pub mod Codes
+pub mod Reading
+pub mod Prefixes
+pub mod Unfolds
+pub mod Intake
+pub mod Exact
