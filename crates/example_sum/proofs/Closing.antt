@@ -17,7 +17,7 @@ use Rattle.nub.proofs.Totals.{at_firsts, total_firsts}
 use Rattle.nub.proofs.Users.{from_at, idle_own}
 use Rattle.larch_actions.specs.declared.event.Version.TheVariants.{Two}
 use Rattle.example_sum.specs.Sums.{AreSums, IsSum}
-use Rattle.example_sum.specs.Trees.{Adder, Adders, HaveAdded, IsBack, IsSpare, MayAdd, added_by, amount}
+use Rattle.example_sum.specs.Trees.{Adder, Adders, HaveAdded, IsSpare, MayAdd, added_by, amount}
 use Rattle.example_sum.proofs.Counting.{shares_added}
 use Rattle.nub.proofs.Numbered.{one_with, times_opened, total_in_order}
 
@@ -44,14 +44,8 @@ module _ (p : Adders) (first : Adder) (rights : List Adder) (begins : IsFirst p 
     version = two;
     mutex = mutex;
     small = small;
-    named = let e = begins.number in omega arith;
     idle = idle_own p (λ w t. 0) 0 first begins;
-    spare = all-of (IsSpare p) rights (λ n k at.
-        let right = each n k at in
-        let number = right.number in
-        let low = (from_at rights n k at).0 in
-        record { back = record { named = omega arith; left = right.left }; share = right.share });
-    apart = λ i. let e = once i in grind (arith, nat_tests);
+    spare = all-of (IsSpare p) rights (λ n k at. let right = each n k at in record { left = right.left; share = right.share });
   }
 
   -- all threads are back, each once
@@ -60,14 +54,14 @@ module _ (p : Adders) (first : Adder) (rights : List Adder) (begins : IsFirst p 
 
 -- each may come back
 pub each_left : (p : Adders) (before ks : List Adder) (m : ℕ) → HaveAdded p before m ks → Each (λ n k. IsLeft p k) ks
-each_left p before ks m have i k at = let r = from_at ks i k at in subst (λ x. IsLeft p x) (sym r.1) (have.back i k r.0).left
+each_left p before ks m have i k at = let r = from_at ks i k at in subst (λ x. IsLeft p x) (sym r.1) (have.back i k r.0)
 
 -- the value is all that the threads have added
 pub value_is : (p : Adders) (before ks threads : List Adder) (n : ℕ) (values : List ℕ) → HaveAdded p before n ks → threads ≡ in_order p.layout.threads ks → KeepsLocks AreSums threads values → values ≡ n ∷ []
 value_is p before ks threads n values have is locks =
     let one = the_value IsSum values locks.shares locks.kept in
     let shares = shares_added threads locks.shares locks.each_share in
-    let ordered = ap (λ ts. added_by ts) is ∙ total_in_order (λ (k : Adder). amount k.share) p.layout.threads ks (All-weaker (IsBack p) (λ k. k.number < p.layout.threads) (λ k b. b.named) ks have.back) in
+    let ordered = ap (λ ts. added_by ts) is ∙ total_in_order (λ (k : Adder). amount k.share) p.layout.threads ks (All-weaker (IsLeft p) (λ k. k.number < p.layout.threads) (λ k b. b.named) ks have.back) in
     let all = one.2.all in
     let added = have.added in
     one.1 ∙ ap (λ k. k ∷ []) (omega arith)

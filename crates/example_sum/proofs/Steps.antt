@@ -1,12 +1,13 @@
 -- What a thread may do that forks another, and what both have done.
-use Rattle.std.proofs.Common.{◌≡◌, ◌≢◌, cond, eqb, ℕ, ◌+◌, ◌<◌, ◌≤◌, sum, List, [], ◌∷◌, ◌++◌, arith, sym, subst, ap, ◌∙◌, refl}
+use Rattle.std.proofs.Common.{◌≡◌, cond, eqb, ℕ, ◌+◌, ◌≤◌, sum, List, [], ◌∷◌, ◌++◌, arith, sym, subst, ap, ◌∙◌, refl, append-nil, append_assoc}
 use Rattle.std.specs.List.{All}
-use Rattle.std.proofs.lemmas.Bool.{eq-eqb}
 use Rattle.std.proofs.lemmas.List.Elements.{All-append, All-cons, All-head, All-nil, All-same, All-tail, All-weaker}
 use Rattle.nub.specs.Idle.{IsIdle}
 use Rattle.nub.specs.Totals.{is_number, times, total}
 use Rattle.nub.specs.Forks.{IsLeft}
-use Rattle.example_sum.specs.Trees.{Adder, Adders, HaveAdded, IsBack, IsSpare, MayAdd, added_by, amount}
+use Rattle.nub.specs.Rest.{Adds}
+use Rattle.nub_rule.specs.Plays.{fork_event, join_event}
+use Rattle.example_sum.specs.Trees.{Adder, Adders, HasJoined, HasJoinedToo, is_fork, is_join, HaveAdded, IsSpare, MayAdd, added_by, amount}
 use Rattle.nub.proofs.Numbered.{total_both}
 
 module _ {A : Type 0} (P : A → Type 0) where
@@ -50,13 +51,13 @@ module _ (p : Adders) where
       omega arith
 
   -- an idle thread may come back
-  idle-back : (n s : ℕ) (k : Adder) → n < p.layout.threads → IsIdle p n s k → IsBack p k
-  idle-back n s k low i = record { named = subst (λ m. m < p.layout.threads) (sym i.number) low; left = record { of = i.rest.of; stored = i.rest.stored } }
+  idle-back : (n s : ℕ) (k : Adder) → IsIdle p n s k → IsLeft p k
+  idle-back n s k i = record { of = i.rest.of; named = i.rest.named; stored = i.rest.stored }
 
   -- a thread that forks no other has added its numbers
   pub alone : (me k : Adder) (numbers : List ℕ) (rights ks : List Adder) → MayAdd p me numbers rights → ks ≡ rights → IsIdle p me.number (sum numbers) k → HaveAdded p (me ∷ rights) (sum numbers) (k ∷ ks)
   alone me k numbers rights ks may same idle = record {
-    back = All-cons (IsBack p) k ks (idle-back me.number (sum numbers) k may.named idle) (All-same (IsBack p) ks rights same (All-weaker (IsSpare p) (IsBack p) (λ x s. s.back) rights may.spare));
+    back = All-cons (IsLeft p) k ks (idle-back me.number (sum numbers) k idle) (All-same (IsLeft p) ks rights same (All-weaker (IsSpare p) (IsLeft p) (λ x s. s.left) rights may.spare));
     same = λ n. let a = alike n me k idle.number in let b = ap (times n) same in omega arith;
     added =
         let a = ap amount idle.share in
@@ -82,14 +83,8 @@ module _ (p : Adders) where
       version = may.version;
       mutex = may.mutex;
       small = let a = may.small in omega arith;
-      named = subst (λ m. m < p.layout.threads) (sym idle.number) may.named;
       idle = subst (λ m. IsIdle p m 0 k) (sym idle.number) idle;
       spare = all-front (IsSpare p) rest (c ∷ []) spare-front;
-      apart = λ n.
-          let a = may.apart n in
-          let b = alike n me k idle.number in
-          let d = total-parted (is_number n) rights rest theirs c parted in
-          omega arith;
     }
 
     -- the thread that was forked begins with a part
@@ -98,41 +93,24 @@ module _ (p : Adders) where
       version = may.version;
       mutex = may.mutex;
       small = let a = may.small in omega arith;
-      named = subst (λ m. m < p.layout.threads) (sym idle.number) taken.back.named;
       idle = subst (λ m. IsIdle p m 0 k) (sym idle.number) idle;
       spare = all-back (IsSpare p) (rest ++ c ∷ []) theirs spare-all;
-      apart = λ n.
-          let a = may.apart n in
-          let b = alike n c k idle.number in
-          let d = total-parted (is_number n) rights rest theirs c parted in
-          omega arith;
     }
-
-    -- the two are two
-    pub others : c.number ≢ me.number
-    others e =
-        let a = may.apart c.number in
-        let b : is_number c.number c ≡ 1 = ap (λ b. cond b 1 0) (eq-eqb c.number c.number refl) in
-        let d : is_number c.number c ≡ is_number c.number me = alike c.number me c e in
-        let f = total-parted (is_number c.number) rights rest theirs c parted in
-        omega arith
 
   -- the thread itself comes back by another call, which adds nothing
   pub comes_back : (before ks : List Adder) (n : ℕ) (k l : Adder) → IsLeft p l → l.number ≡ k.number → l.share ≡ k.share → HaveAdded p before n (k ∷ ks) → HaveAdded p before n (l ∷ ks)
-  comes_back before ks n k l left number share have =
-      let was = All-head (IsBack p) k ks have.back in
-      record {
-        back = All-cons (IsBack p) l ks record { named = subst (λ m. m < p.layout.threads) (sym number) was.named; left = left } (All-tail (IsBack p) k ks have.back);
-        same = λ i. let a = alike i k l number in let b = have.same i in omega arith;
-        added = let a = ap amount share in let b = have.added in omega arith;
-      }
+  comes_back before ks n k l left number share have = record {
+    back = All-cons (IsLeft p) l ks left (All-tail (IsLeft p) k ks have.back);
+    same = λ i. let a = alike i k l number in let b = have.same i in omega arith;
+    added = let a = ap amount share in let b = have.added in omega arith;
+  }
 
   -- both have added, and so the whole
   pub together : (me k c l : Adder) (rights rest theirs : List Adder) (t : Adder) → k.number ≡ me.number → l.number ≡ c.number → rights ≡ (rest ++ c ∷ []) ++ theirs
       → (over : Adder) (es e1 e2 us u1 u2 : List Adder) → es ≡ (e1 ++ over ∷ []) ++ e2 → us ≡ u1 ++ u2
       → (a b n : ℕ) → a + b ≡ n → HaveAdded p (k ∷ rest) a (t ∷ (e1 ++ u1)) → HaveAdded p (l ∷ theirs) b (over ∷ (e2 ++ u2)) → HaveAdded p (me ∷ rights) n (t ∷ (es ++ us))
   together me k c l rights rest theirs t mine yours parted over es e1 e2 us u1 u2 ended unborn a b n sums x y =
-      let P = IsBack p in
+      let P = IsLeft p in
       let first = All-tail P t (e1 ++ u1) x.back in
       let second = All-tail P over (e2 ++ u2) y.back in
       let e = All-same P es ((e1 ++ over ∷ []) ++ e2) ended (All-append P (e1 ++ over ∷ []) e2
@@ -160,7 +138,7 @@ module _ (p : Adders) where
   -- the thread that comes back last stands behind the others
   pub last : (before es others us : List Adder) (n : ℕ) (l : Adder) → es ≡ others ++ l ∷ [] → HaveAdded p before n (l ∷ (others ++ us)) → HaveAdded p before n (es ++ us)
   last before es others us n l is have =
-      let P = IsBack p in
+      let P = IsLeft p in
       let rest = All-tail P l (others ++ us) have.back in
       let whole : es ++ us ≡ (others ++ l ∷ []) ++ us = ap (λ ks. ks ++ us) is in
       record {
@@ -178,3 +156,21 @@ module _ (p : Adders) where
             let c = have.added in
             omega arith;
       }
+
+-- a thread that forked another, and then waited for its end and for those of all that it forked meanwhile
+pub joined_child : (n who : ℕ) (a b c : Adder) → Adds [] (fork_event n who) a b → HasJoinedToo who b c → HasJoined a c
+joined_child n who a b c forked rest = (
+  fork_event n who ∷ rest.0,
+  rest.1 ∙ (ap (λ l. l ++ rest.0) (forked.mine ∙ ap (λ l. l ++ fork_event n who ∷ []) (append-nil a.mine)) ∙ append_assoc a.mine (fork_event n who ∷ []) rest.0),
+  λ k. let h = rest.2 k in omega arith,
+)
+
+pub joined_too : (n who : ℕ) (a b c : Adder) → HasJoined a b → Adds [] (join_event n who) b c → HasJoinedToo who a c
+joined_too n who a b c rest last = (
+  rest.0 ++ join_event n who ∷ [],
+  last.mine ∙ (ap (λ l. l ++ join_event n who ∷ []) (append-nil b.mine ∙ rest.1) ∙ append_assoc a.mine rest.0 (join_event n who ∷ [])),
+  λ k. let h = rest.2 k in
+      let x = total_both (λ e. is_join k e.action) rest.0 (join_event n who ∷ []) in
+      let y = total_both (λ e. is_fork k e.action) rest.0 (join_event n who ∷ []) in
+      omega arith,
+)

@@ -1,6 +1,9 @@
 -- What threads have added, and the threads that one has forked.
-use Rattle.std.specs.Prelude.{◌≡◌, ℕ, ◌<◌, ◌≤◌, ◌^◌, sum, List, ◌∷◌, Option as Opt, Some, None}
+use Rattle.std.specs.Prelude.{◌≡◌, ℕ, ◌+◌, ◌≤◌, ◌^◌, cond, eqb, sum, List, ◌++◌, Option as Opt, Some, None}
 use Rattle.std.specs.List.{All}
+use Rattle.larch_actions.specs.declared.event.Action.{Action}
+use Rattle.larch_actions.specs.declared.event.Action.TheVariants.{Fork, Join}
+use Rattle.larch_actions.specs.declared.event.Event.{Event}
 use Rattle.larch_actions.specs.declared.event.Version.TheVariants.{Two}
 use Rattle.nub_rule.specs.Known.{Known, Shape}
 use Rattle.nub.specs.Forks.{IsLeft}
@@ -22,29 +25,45 @@ amount (Some s) = s
 abbrev pub added_by : List Adder → ℕ
 added_by ks = total (λ k. amount k.share) ks
 
--- the thread is one of the package, and may come back to it
-pub record IsBack (p : Adders) (k : Adder) : Type 0 where
-  pub named : k.number < p.layout.threads
-  pub left : IsLeft p k
+-- 1 where the action begins the thread, and where it waits for its end
+abbrev pub is_fork : ℕ → Action → ℕ
+is_fork n (Fork t) = cond (eqb t.0 n) 1 0
+is_fork n _ = 0
+
+abbrev pub is_join : ℕ → Action → ℕ
+is_join n (Join t) = cond (eqb t.0 n) 1 0
+is_join n _ = 0
+
+-- how many of the events begin the thread, and how many wait for its end
+abbrev pub forks_of : ℕ → List Event → ℕ
+forks_of n es = total (λ e. is_fork n e.action) es
+
+abbrev pub joins_of : ℕ → List Event → ℕ
+joins_of n es = total (λ e. is_join n e.action) es
+
+-- since a, the thread has waited for the end of each thread that it forked since, as often as it forked it
+abbrev pub HasJoined : Adder → Adder → Type 0
+HasJoined a b = (es : List Event) × (b.mine ≡ a.mine ++ es) × ((n : ℕ) → joins_of n es ≡ forks_of n es)
+
+-- and for the end of one more
+abbrev pub HasJoinedToo : ℕ → Adder → Adder → Type 0
+HasJoinedToo who a b = (es : List Event) × (b.mine ≡ a.mine ++ es) × ((n : ℕ) → joins_of n es ≡ forks_of n es + cond (eqb who n) 1 0)
 
 -- the right to fork a thread, which has added nothing
 pub record IsSpare (p : Adders) (k : Adder) : Type 0 where
-  pub back : IsBack p k
+  pub left : IsLeft p k
   pub share : k.share ≡ Some 0
 
--- the thread has added nothing, and may add the numbers together with the threads that it has the
--- rights to fork: these are others, no two with the same number
+-- the thread has added nothing, and may add the numbers with those to which it has the rights
 pub record MayAdd (p : Adders) (me : Adder) (numbers : List ℕ) (rights : List Adder) : Type 0 where
   pub version : p.layout.version ≡ Two
   pub mutex : 1 ≤ p.layout.mutexes
   pub small : sum numbers ≤ 2 ^ 55
-  pub named : me.number < p.layout.threads
   pub idle : IsIdle p me.number 0 me
   pub spare : All (IsSpare p) rights
-  pub apart : (n : ℕ) → times n (me ∷ rights) ≤ 1
 
 -- the threads are those of before, each once; they may come back, and have added this much together
 pub record HaveAdded (p : Adders) (before : List Adder) (amount : ℕ) (after : List Adder) : Type 0 where
-  pub back : All (IsBack p) after
+  pub back : All (IsLeft p) after
   pub same : (n : ℕ) → times n after ≡ times n before
   pub added : added_by after ≡ amount

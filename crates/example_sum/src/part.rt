@@ -1,6 +1,7 @@
 //! The part of one thread.
 ghost use Rattle.std.specs.Prelude.{◌≡◌, ◌≤◌, ◌^◌, sum};
 ghost use Rattle.nub.specs.Idle.{IsIdle};
+ghost use Rattle.example_sum.specs.Trees.{HasJoined};
 
 use crate::uses::{Adds, Numbers};
 use nub::{MutexId, Package, Thread};
@@ -24,7 +25,8 @@ pub fn add<R: Wait>(rt: &R, p: &Package<Numbers>, me: &mut Thread<Numbers>, numb
     requires mutex { 1 ≤ p.now.layout.mutexes }
     requires small { sum numbers.now ≤ 2 ^ 55 }
     requires idle { IsIdle p.now me.old.number 0 me.old }
-    ensures { IsIdle p.now me.old.number (sum numbers.now) me.new }
+    ensures idle { IsIdle p.now me.old.number (sum numbers.now) me.new }
+    ensures joined { HasJoined me.old me.new }
 {
     let part = sum_of(numbers);
     locked::<Numbers, Adds, (), _, R>(rt, p, me, MutexId(0), |sum| *sum += part);

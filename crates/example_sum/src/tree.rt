@@ -3,7 +3,7 @@
 ghost use Rattle.std.specs.Prelude.{◌≡◌, ◌≢◌, ◌<◌, ◌++◌, ◌∷◌, [], ℕ, sum, length, IfOk, MatchOption, Ok};
 ghost use Rattle.std.specs.Thread.{IsSync};
 ghost use Rattle.nub.specs.Idle.{IsIdle};
-ghost use Rattle.example_sum.specs.Trees.{HaveAdded, MayAdd};
+ghost use Rattle.example_sum.specs.Trees.{HasJoined, HasJoinedToo, HaveAdded, MayAdd};
 ghost use Rattle.example_sum.specs.declared.tree.Crew.{Crew};
 
 use crate::part::add;
@@ -65,8 +65,8 @@ fn both(
     Ok(Crew { ended, unborn })
 }
 
-/// Adds the numbers, by this thread and by those that it forks and waits for. Returns the thread,
-/// and the others unless memory ran out; they have ended even then.
+/// Adds the numbers, by this thread and by those that it forks, for whose ends it waits. It answers the thread, and the others unless memory ran out:
+/// these have ended all the same.
 pub fn add_all<R: Threads + Wait + Sync>(
     rt: &R,
     p: &Package<Numbers>,
@@ -76,6 +76,7 @@ pub fn add_all<R: Threads + Wait + Sync>(
 ) -> (Thread<Numbers>, Result<Crew, AllocError>)
     requires { MayAdd p.now me numbers.now rights.items }
     ensures idle { (s : ℕ) × IsIdle p.now me.number s result.0 }
+    ensures joined { HasJoined me result.0 }
     ensures added { IfOk result.1 (λ c. HaveAdded p.now (me ∷ rights.items) (sum numbers.now)
         (result.0 ∷ (c.ended.items ++ c.unborn.items))) }
 {
@@ -101,7 +102,7 @@ pub fn add_all<R: Threads + Wait + Sync>(
             requires { IsSync R.row × MayAdd p.now me front.now rights.items × (who.0 < p.now.layout.threads) × (who.0 ≢ me.number) }
             ensures { ((s : ℕ) × IsIdle p.entry.now me.number s result.0)
                 × IfOk result.1 (λ c. HaveAdded p.entry.now (me ∷ rights.items) (sum front.entry.now)
-                (result.0 ∷ (c.ended.items ++ c.unborn.items))) }
+                (result.0 ∷ (c.ended.items ++ c.unborn.items))) × HasJoinedToo who.0 me result.0 }
         {
             let (mut me, mine) = add_all(rt, p, me, front, rights);
             join_thread(rt, p, &mut me, who);

@@ -2,19 +2,28 @@ use Rattle.std.proofs.Common.{◌≡◌, ◌≢◌, ◌+◌, ◌<◌, ◌++◌, 
 use Rattle.std.proofs.lemmas.List.Sums.{sum_by-take-drop}
 use Rattle.std.proofs.lemmas.Result.{IfOk-weaker}
 use Rattle.example_sum.specs.declared.tree.Crew.{Crew}
-use Rattle.example_sum.specs.Trees.{Adder, HaveAdded, MayAdd}
-use Rattle.example_sum.proofs.Steps.{alone, begins, comes_back, goes_on, others, taken, together}
+use Rattle.example_sum.specs.Trees.{Adder, HasJoinedToo, HaveAdded, MayAdd}
+use Rattle.example_sum.proofs.Steps.{alone, begins, comes_back, goes_on, joined_child, joined_too, taken, together}
 use Rattle.example_sum.proofs.tree.+add_all+fn-add_all-join+arg2+fn-add_all-join+arg3.Goals as goal
 
 pub returns-in_default-clause-added : goal.returns-in_default-clause-added
 returns-in_default-clause-added g t c =
     let kept = c.take_right.new.rights.items in
     let same : kept ≡ c.args.rights.items = search rules in
-    alone c.args.p.now c.args.me c.add.new.me c.args.numbers.now c.args.rights.items (c.new-ended.result.items ++ kept) c.requires (ap (λ l. l ++ kept) c.new-ended.ensures.items ∙ same) c.add.ensures
+    alone c.args.p.now c.args.me c.add.new.me c.args.numbers.now c.args.rights.items (c.new-ended.result.items ++ kept) c.requires (ap (λ l. l ++ kept) c.new-ended.ensures.items ∙ same) c.add.ensures.idle
+
+pub returns-clause-joined : goal.returns-clause-joined
+returns-clause-joined g t c =
+    let who = c.in-Some.child.number in
+    joined_child c.args.me.number who c.args.me c.fork_thread.new.me c.join-me.result.0.0 c.fork_thread.ensures.event (subst (λ k. HasJoinedToo k c.fork_thread.new.me c.join-me.result.0.0) c.number.ensures c.join-me.ensures.first.2)
 
 pub fork_thread-requires-clause-of : goal.fork_thread-requires-clause-of
 fork_thread-requires-clause-of g t c κs within =
-    (taken c.args.p.now c.args.me c.args.numbers.now [] c.args.rights.items c.take_right.new.rights.items c.in-Some.theirs.items c.in-Some.child c.requires c.in-Some.ensures.1).back.left.of
+    (taken c.args.p.now c.args.me c.args.numbers.now [] c.args.rights.items c.take_right.new.rights.items c.in-Some.theirs.items c.in-Some.child c.requires c.in-Some.ensures.1).left.of
+
+pub fork_thread-requires-clause-named : goal.fork_thread-requires-clause-named
+fork_thread-requires-clause-named g t c κs within =
+    (taken c.args.p.now c.args.me c.args.numbers.now [] c.args.rights.items c.take_right.new.rights.items c.in-Some.theirs.items c.in-Some.child c.requires c.in-Some.ensures.1).left.named
 
 pub join-me-requires-after_bounds : goal.join-me-requires-after_bounds
 join-me-requires-after_bounds g t c κs within =
@@ -35,8 +44,8 @@ join-me-requires-after_bounds g t c κs within =
     let own : MayAdd p c.fork_thread.new.me front rest = goes_on p me numbers front rights rest theirs child c.requires parted c.fork_thread.new.me idle (omega arith) in
     let new : MayAdd p c.in-Ok.child back theirs = begins p me numbers back rights rest theirs child c.requires parted c.in-Ok.child (c.in-Ok.ensures.child_idle c.requires.idle.world) (omega arith) in
     let right = taken p me numbers front rights rest theirs child c.requires parted in
-    let low : c.number.result < p.layout.threads = subst (λ k. k < p.layout.threads) (sym c.number.ensures) right.back.named in
-    let two : c.number.result ≢ c.fork_thread.new.me.number = λ e. others p me numbers front rights rest theirs child c.requires parted (sym c.number.ensures ∙ (e ∙ idle.number)) in
+    let low : c.number.result < p.layout.threads = subst (λ k. k < p.layout.threads) (sym c.number.ensures) right.left.named in
+    let two : c.number.result ≢ c.fork_thread.new.me.number = λ e. c.fork_thread.ensures.apart (sym c.number.ensures ∙ (e ∙ idle.number)) in
     ((search rules, ((λ a m. m), ((search rules, own, low, two), search rules))), (search rules, ((λ a m. m), ((search rules, new), search rules))))
 
 pub returns-clause-added : goal.returns-clause-added
@@ -87,8 +96,9 @@ join+arg2-returns g t c =
           c.add_all-me.result.1
           (λ (w : Crew). HaveAdded p before n (k ∷ (w.ended.items ++ w.unborn.items)))
           (λ (w : Crew). HaveAdded p before n (l ∷ (w.ended.items ++ w.unborn.items)))
-          (λ w have. comes_back p before (w.ended.items ++ w.unborn.items) n k l record { of = left.of; stored = left.stored } c.join_thread.ensures.same.number c.join_thread.ensures.share have)
+          (λ w have. comes_back p before (w.ended.items ++ w.unborn.items) n k l record { of = left.of; named = left.named; stored = left.stored } c.join_thread.ensures.same.number c.join_thread.ensures.share have)
           did.added,
+      joined_too k.number c.captures.who.0 c.captures.me k l did.joined c.join_thread.ensures.event,
     )
 
 pub join+arg3-returns : goal.join+arg3-returns
