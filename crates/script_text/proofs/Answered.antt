@@ -1,10 +1,12 @@
 -- An input has one answer.
-use Rattle.std.proofs.Common.{◌≡◌, ℕ, ◌<◌, ◌⊎◌, inl, inr, List, [], ◌∷◌, ◌++◌, ap, sym, subst, ◌∙◌, append-nil, arith}
+use Rattle.std.proofs.Common.{◌≡◌, ℕ, ◌<◌, ◌⊎◌, inl, inr, List, [], ◌∷◌, ◌++◌, refl, ap, sym, subst, ◌∙◌, append-nil, arith}
 use Rattle.std.proofs.lemmas.Bool.Decides.{eqb_tells}
 use Rattle.script_text.specs.Faults.{Begins, Lacks, newlines, IsBadLine, IsTooLong, IsShortText, OneAnswer}
 use Rattle.script_text.specs.Operations.{none_held, none_forked}
-use Rattle.script_text.specs.Text.{IsScriptText}
-use Rattle.script_text.proofs.Prefixes.{newlines_append, newlines_script, script_end}
+use Rattle.larch_actions.specs.declared.event.Layout.{Layout}
+use Rattle.script_text.specs.declared.line.Line.{Line}
+use Rattle.script_text.specs.Text.{lines_text, script_text, IsScriptText, ReadsAs}
+use Rattle.script_text.proofs.Prefixes.{newlines_append, newlines_script, script_behind, script_end}
 use Rattle.script_text.proofs.Verdicts.{ends_before, prefixes, last_newline}
 
 lacks_none : (bytes : List ℕ) → newlines bytes ≡ 0 → Lacks 10 bytes
@@ -48,9 +50,19 @@ one_bad_line input j k a b =
       | inr m ↦ sym (first_bad input k j b a m.0 m.1 m.2)
     ]
 
+nothing_more : (zs : List Line) → (let none : List ℕ = [] in none) ≡ lines_text zs → zs ≡ []
+nothing_more [] e = refl
+nothing_more (z ∷ zs) e = absurd (cc)
+
+one_script : (input : List ℕ) (l k : Layout) (xs ys : List Line) → ReadsAs input l xs → ReadsAs input k ys → (l ≡ k) × (xs ≡ ys)
+one_script input l k xs ys a b =
+    let r = script_behind k l none_held none_forked xs ys [] b.script.lawful a.script.lawful a.script.follow b.script.follow (append-nil (script_text l xs) ∙ (sym a.text ∙ b.text)) in
+    (sym r.0, sym (r.1.1 ∙ (ap (λ zs. xs ++ zs) (nothing_more r.1.0 r.1.2) ∙ append-nil xs)))
+
 pub one_answer : OneAnswer
 one_answer = record {
   text_or_bad = λ input k text bad. text_not_bad input k (text.0, text.1, text.2) bad;
   text_or_long = text_not_long;
+  one_script = one_script;
   one_line = one_bad_line;
 }

@@ -1,5 +1,5 @@
 -- Why a script isn't read.
-use Rattle.std.specs.Prelude.{◌≡◌, ℕ, ◌+◌, ◌<◌, ◌≤◌, List, [], ◌∷◌, ◌++◌, length, IfSome, if◌then◌else◌, ◌==◌}
+use Rattle.std.specs.Prelude.{◌≡◌, ◌≢◌, ℕ, ◌+◌, ◌<◌, ◌≤◌, List, [], ◌∷◌, ◌++◌, length, Result, IfErr, IfSome, OnOk, if◌then◌else◌, ◌==◌}
 use Rattle.std.specs.Io.KnownBytes.{Consumes}
 use Rattle.std.specs.declared.option.Option.{Option}
 use Rattle.firefly_outside.specs.Causes.{Rose}
@@ -67,12 +67,20 @@ HasReason left left' before now (BadLine k) = IfSome left (λ input. IsBadLine i
 HasReason left left' before now TooLong = IfSome left IsTooLong
 HasReason left left' before now Read = Rose before now × ((given : List ℕ) × Consumes left left' given × IsUndecided given)
 
+-- A failed read is told: the count of faults never falls, and rises only where the call tells a failed read.
+pub record IsTold {T : Type 0} (before now : ℕ) (result : Result T ScriptFault) : Type 0 where
+  pub later : before ≤ now
+  pub unfailed : OnOk result (now ≡ before)
+  pub otherwise : IfErr result (λ fault. fault ≢ Read → now ≡ before)
+
 -- the bytes are the text of a script of at most 100,000 lines
 abbrev pub IsShortText : List ℕ → Type 0
 IsShortText bytes = (l : Layout) × (xs : List Line) × ReadsAs bytes l xs × (head_lines l.version + length xs ≤ 100000)
 
--- Of an input at most one of these holds: it is a script of at most 100,000 lines, a line of it is bad, it is too long. It has at most one bad line.
+-- Of an input at most one of these holds: it is a script of at most 100,000 lines, a line of it is bad, it is too long. It is the text of one
+-- script, and has at most one bad line.
 pub record OneAnswer : Type 0 where
   pub text_or_bad : (input : List ℕ) (k : ℕ) → IsShortText input → IsBadLine input k → ⊥
   pub text_or_long : (input : List ℕ) → IsShortText input → IsTooLong input → ⊥
+  pub one_script : (input : List ℕ) (l k : Layout) (xs ys : List Line) → ReadsAs input l xs → ReadsAs input k ys → (l ≡ k) × (xs ≡ ys)
   pub one_line : (input : List ℕ) (j k : ℕ) → IsBadLine input j → IsBadLine input k → j ≡ k

@@ -1,5 +1,5 @@
 //! The line that stands next in a window.
-ghost use Rattle.std.specs.Prelude.{◌≡◌, ◌<◌, ◌≤◌, MatchOption, MatchResult, length};
+ghost use Rattle.std.specs.Prelude.{◌≡◌, ◌<◌, ◌≤◌, MatchOption, MatchResult, OnOk, length};
 ghost use Rattle.std.specs.Io.KnownBytes.{Keeps, prepend_known};
 ghost use Rattle.firefly_outside.specs.Causes.{Rose};
 ghost use Rattle.script_text.specs.Founds.{IsNext, IsSeen, IsOpen};
@@ -43,6 +43,7 @@ pub fn next<I: Source>(window: &mut Window, input: &mut I) -> Result<Found, Fail
     ensures found { MatchResult result (IsNext window.new (I.left input.new)) (λ _. IsOpen window.new
         × Rose (I.faults input.old) (I.faults input.new)) }
     ensures later { I.faults input.old ≤ I.faults input.new }
+    ensures unfailed { OnOk result (I.faults input.new ≡ I.faults input.old) }
 {
     loop {
         if let Some(found) = look(window.bytes()) {

@@ -11,7 +11,7 @@ invariant-loop-window g l = record {
   layout : l.draft.layout ≡ l.initial.draft.layout;
   few : head_lines l.draft.layout.version + length l.draft.lines.items ≤ 100000;
   consumed : Consumes (prepend_known l.initial.window (g.I.Source.left l.initial.input)) (prepend_known l.window (g.I.Source.left l.input)) (lines_text l.draft.lines.items);
-  later : g.I.Source.faults l.initial.input ≤ g.I.Source.faults l.input;
+  unfailed : g.I.Source.faults l.input ≡ g.I.Source.faults l.initial.input;
 }
 
 abbrev pub decreases-loop-window : goal.decreases-loop-window
