@@ -1,5 +1,5 @@
 -- What readers and writers leave together.
-use Rattle.std.proofs.Common.{◌≡◌, ℕ, zero, suc, ◌+◌, ◌*◌, ◌<◌, ◌≤◌, cond, true, false, List, [], ◌∷◌, length, Option as Opt, Some, None, add-one, arith, sym, ap, subst, ◌∙◌, refl}
+use Rattle.std.proofs.Common.{◌≡◌, ℕ, zero, suc, ◌+◌, ◌*◌, ◌<◌, ◌≤◌, cond, true, false, List, [], ◌∷◌, length, Option as Opt, Some, None, add-one, arith, sym, ap, subst, ◌∙◌, refl, eq-eqb}
 use Rattle.std.specs.Bool.{nat_lt}
 use Rattle.std.specs.List.{sum}
 use Rattle.std.proofs.lemmas.Bool.Decides.{nat_tests}
@@ -14,17 +14,17 @@ use Rattle.readers_writers.specs.declared.role.Role.TheVariants.{Idle, Reading, 
 use Rattle.readers_writers.specs.declared.role.RoleChange.{RoleChange}
 use Rattle.readers_writers.specs.declared.state.RwState.{RwState}
 use Rattle.readers_writers.specs.Roles.{AreRoles, IsRole, one_if_reading, role_of, turn}
-use Rattle.bench_workloads.specs.Reading.{HasPlayed, Player, role_by, turns, writes_by}
+use Rattle.bench_workloads.specs.Reading.{AreTurns, HasPlayed, Player, role_by, writes_by}
 use Rattle.bench_workloads.proofs.Totals.{total_sides}
 
 -- after its turns a thread is idle
-pub idle_after : (role : Role) (n : ℕ) → role_of (turns role n) 0 ≡ Idle
-idle_after role zero = refl
-idle_after role (suc n) = refl
+pub idle_after : (role : Role) (n : ℕ) (s : List RoleChange) → AreTurns role n s → role_of s 0 ≡ Idle
+idle_after role zero s are = ap (λ u. role_of u 0) are
+idle_after role (suc n) s are = ap (λ u. role_of u 0) are.2 ∙ (ap (λ b. cond b are.0.now (role_of (turn 0 role ∷ are.1) 0)) (eq-eqb are.0.mutex 0 are.3) ∙ are.4)
 
 -- after one more
-pub turned_on : (role now : Role) (i : ℕ) (P : List RoleChange → Type 0) → now ≡ role → P (turn 0 Idle ∷ turn 0 now ∷ turns role i) → P (turns role (i + 1))
-turned_on role now i P is so = subst (λ k. P (turns role k)) (sym (add-one i)) (subst (λ r. P (turn 0 Idle ∷ turn 0 r ∷ turns role i)) is so)
+pub turned_on : (role now : Role) (i : ℕ) (over : RoleChange) (before : List RoleChange) → now ≡ role → over.mutex ≡ 0 → over.now ≡ Idle → AreTurns role i before → AreTurns role (i + 1) (over ∷ turn 0 now ∷ before)
+turned_on role now i over before is at idle are = subst (λ k. AreTurns role k (over ∷ turn 0 now ∷ before)) (sym (add-one i)) (over, before, (λ j. over ∷ turn 0 (is j) ∷ before), at, idle, are)
 
 -- what is so of a reader, and of a writer
 pub reads_by : (readers times n : ℕ) (P : Role → ℕ → Type 0) → n < readers → P Reading 0 → P (role_by readers n) (writes_by readers times n)
@@ -55,7 +55,7 @@ pub left_free : (readers times : ℕ) (threads : List Player) (values : List RwS
 left_free readers times threads [] kept played long = absurd (omega arith)
 left_free readers times threads (q ∷ []) kept played long =
     ap (λ v. v ∷ []) (all_idle q kept.shares (kept.kept.each 0 q refl) (all_told (λ k u. role_of u 0 ≡ Idle) threads kept.shares kept.each_share
-    (λ n t at. (turns (role_by readers n) times, played n t at, idle_after (role_by readers n) times))))
+    (λ n t at. let p = played n t at in (p.0, p.1, idle_after (role_by readers n) times p.0 p.2))))
 left_free readers times threads (q ∷ p ∷ values) kept played long = absurd (omega arith)
 
 -- the writes of so many readers and so many writers

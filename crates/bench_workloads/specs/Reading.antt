@@ -20,9 +20,10 @@ pub record HasState (l : Layout) : Type 0 where
   pub conditions : 1 ≤ l.conditions
 
 -- n turns, in each of which a thread took this role and became idle again, the last first
-abbrev pub turns : Role → ℕ → List RoleChange
-turns role zero = []
-turns role (suc n) = turn 0 Idle ∷ turn 0 role ∷ turns role n
+abbrev pub AreTurns : Role → ℕ → List RoleChange → Type 0
+AreTurns role zero s = s ≡ []
+AreTurns role (suc n) s = (over : RoleChange) × (before : List RoleChange) × (s ≡ over ∷ turn 0 role ∷ before) × (over.mutex ≡ 0)
+    × (over.now ≡ Idle) × AreTurns role n before
 
 abbrev pub role_if : Bool → Role
 role_if reads = cond reads Reading Writing
@@ -37,8 +38,12 @@ writes_by readers times n = cond (nat_lt n readers) 0 times
 
 -- the thread n has taken `times` turns
 abbrev pub HasPlayed : ℕ → ℕ → ℕ → Player → Type 0
-HasPlayed readers times n t = t.share ≡ Some (turns (role_by readers n) times)
+HasPlayed readers times n t = (s : List RoleChange) × (t.share ≡ Some s) × AreTurns (role_by readers n) times s
+
+-- the thread n of the package is between two calls, and has taken so many turns in this role
+abbrev pub HasTurns : Shape (Unit {0}) → Role → ℕ → ℕ → Player → Type 0
+HasTurns p role n times t = (s : List RoleChange) × IsIdle p n s t × AreTurns role times s
 
 -- the thread n of the package has taken `times` turns, and counted this many writes
 abbrev pub HasCounted : Shape (Unit {0}) → ℕ → ℕ → ℕ → ℕ → Player → Type 0
-HasCounted p readers times n writes t = IsIdle p n (turns (role_by readers n) times) t × (writes ≡ writes_by readers times n)
+HasCounted p readers times n writes t = HasTurns p (role_by readers n) n times t × (writes ≡ writes_by readers times n)

@@ -3,8 +3,7 @@ ghost use Rattle.std.specs.Prelude.{[], ◌∷◌, ◌≡◌, ◌+◌, ◌*◌, 
 ghost use Rattle.std.specs.List.{sum};
 ghost use Rattle.nub_rule.specs.Items.{Each};
 ghost use Rattle.nub.specs.Ended.{IsFirst};
-ghost use Rattle.nub.specs.Idle.{IsIdle};
-ghost use Rattle.bench_workloads.specs.Reading.{HasCounted, HasPlayed, HasState, role_if, turns};
+ghost use Rattle.bench_workloads.specs.Reading.{HasCounted, HasPlayed, HasState, HasTurns, role_if};
 
 use crate::numbers::Sides;
 use nub::{Closed, CondId, Layout, MutexId, Package, Thread, close_package, open_package};
@@ -83,9 +82,8 @@ fn take_turn<R: Wait>(
     pair: &Pair,
 ) -> u64
     requires named { HasState shared.now.layout }
-    requires idle { (n : ℕ) × (i : ℕ) × IsIdle shared.now n (turns (role_if reads) i) me.old }
-    ensures { (n i : ℕ) → IsIdle shared.now n (turns (role_if reads) i) me.old
-        → IsIdle shared.now n (turns (role_if reads) (i + 1)) me.new }
+    requires idle { (n : ℕ) × (i : ℕ) × HasTurns shared.now (role_if reads) n i me.old }
+    ensures { (n i : ℕ) → HasTurns shared.now (role_if reads) n i me.old → HasTurns shared.now (role_if reads) n (i + 1) me.new }
 {
     if reads {
         begin_read(rt, shared, me, &AT);

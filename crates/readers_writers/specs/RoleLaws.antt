@@ -15,13 +15,13 @@ use Rattle.readers_writers.specs.declared.role.Role.{Role}
 use Rattle.readers_writers.specs.declared.role.Role.TheVariants.{Idle, Reading, Writing}
 use Rattle.readers_writers.specs.declared.role.RoleChange.{RoleChange}
 use Rattle.readers_writers.specs.declared.state.RwState.{RwState}
-use Rattle.readers_writers.specs.Roles.{turn, role_of, one_if_reading, reading, IsRole, AreRoles, IsKnown, Goes, Allowed}
+use Rattle.readers_writers.specs.Roles.{goes_to, role_of, one_if_reading, reading, IsRole, AreRoles, IsKnown, Goes, Allowed}
 
-pub role_here : (m : ℕ) (role : Role) (s : List RoleChange) → role_of (turn m role ∷ s) m ≡ role
-role_here m role s = ap (λ b. cond b role (role_of s m)) (eq-eqb m m refl)
+pub role_here : (m : ℕ) (old role : Role) (y : RwState) (s : List RoleChange) → role_of (goes_to m old role y ∷ s) m ≡ role
+role_here m old role y s = ap (λ b. cond b role (role_of s m)) (eq-eqb m m refl)
 
-pub role_there : (m k : ℕ) (role : Role) (s : List RoleChange) → k ≢ m → role_of (turn m role ∷ s) k ≡ role_of s k
-role_there m k role s n = grind (arith, nat_tests)
+pub role_there : (m k : ℕ) (old role : Role) (y : RwState) (s : List RoleChange) → k ≢ m → role_of (goes_to m old role y ∷ s) k ≡ role_of s k
+role_there m k old role y s n = grind (arith, nat_tests)
 
 -- 1 if the thread with this share reads under the mutex
 abbrev reads_at : ℕ → List RoleChange → ℕ
@@ -169,12 +169,12 @@ roles_after w values shares h m x y at t s r there ok =
     let here : IsRole m x shares → IsRole m y next = ⊎_elim
     (λ (o : (y ≡ x) × (r ≡ s)). λ rule.
     subst (λ v. IsRole m v next) (sym o.0) (rule-same m x shares t s r there (ap (λ l. role_of l m) o.1) rule))
-    (λ (o : (role : Role) × Goes t (role_of s m) role x y × (r ≡ turn m role ∷ s)). λ rule.
-    rule-goes m t (role_of s m) o.0 x y shares s r there refl (ap (λ l. role_of l m) o.2 ∙ role_here m o.0 s) o.1 rule)
+    (λ (o : (role : Role) × Goes t (role_of s m) role x y × (r ≡ goes_to m (role_of s m) role y ∷ s)). λ rule.
+    rule-goes m t (role_of s m) o.0 x y shares s r there refl (ap (λ l. role_of l m) o.2 ∙ role_here m (role_of s m) o.0 y s) o.1 rule)
     ok in
     let there_is : (k : ℕ) → k ≢ m → role_of r k ≡ role_of s k = λ k other. ⊎_elim
     (λ (o : (y ≡ x) × (r ≡ s)). ap (λ l. role_of l k) o.1)
-    (λ (o : (role : Role) × Goes t (role_of s m) role x y × (r ≡ turn m role ∷ s)). ap (λ l. role_of l k) o.2 ∙ role_there m k o.0 s other)
+    (λ (o : (role : Role) × Goes t (role_of s m) role x y × (r ≡ goes_to m (role_of s m) role y ∷ s)). ap (λ l. role_of l k) o.2 ∙ role_there m k (role_of s m) o.0 y s other)
     ok in
     record {
       few = let a = length-set shares t r in let b = h.few in omega arith;

@@ -1,5 +1,5 @@
 -- Which threads read and which write under a mutex.
-use Rattle.std.specs.Prelude.{◌≡◌, ◌⊎◌, ℕ, ◌+◌, ◌<◌, ◌≤◌, cond, eqb, List, [], ◌∷◌, length, Some, None}
+use Rattle.std.specs.Prelude.{◌≡◌, ◌⊎◌, ℕ, ◌+◌, ◌<◌, ◌≤◌, cond, eqb, List, [], ◌∷◌, length, Option as Opt, Some, None}
 use mathlib.Core.Option.{some}
 use lib.ListN.{get_elem?}
 use Rattle.larch_actions.specs.declared.event.Layout.{Layout}
@@ -16,7 +16,20 @@ pub record IsNamed (l : Layout) (at : RwAt) : Type 0 where
   pub changed : at.changed.0 < l.conditions
 
 abbrev pub turn : ℕ → Role → RoleChange
-turn m role = record { mutex = m; now = role }
+turn m role = record { mutex = m; now = role; left = None }
+
+-- a thread ended to read, and left so many readers
+abbrev pub turn_from_reading : ℕ → ℕ → RoleChange
+turn_from_reading m readers = record { mutex = m; now = Idle; left = Some readers }
+
+-- how many readers a thread left that was in this role before, where it has ended to read
+abbrev pub readers_left : Role → RwState → Opt ℕ
+readers_left Reading y = Some y.readers
+readers_left _ y = None
+
+-- from this role the thread goes to another, and leaves the state y
+abbrev pub goes_to : ℕ → Role → Role → RwState → RoleChange
+goes_to m old role y = record { mutex = m; now = role; left = readers_left old y }
 
 -- what the thread with this share does under the mutex m
 abbrev pub role_of : List RoleChange → ℕ → Role
@@ -59,4 +72,4 @@ Goes t _ _ x y = ⊥
 
 -- nothing changes, or the thread goes to another role
 abbrev pub Allowed : ℕ → ℕ → RwState → RwState → List RoleChange → List RoleChange → Type 0
-Allowed m t x y s r = ((y ≡ x) × (r ≡ s)) ⊎ ((role : Role) × Goes t (role_of s m) role x y × (r ≡ turn m role ∷ s))
+Allowed m t x y s r = ((y ≡ x) × (r ≡ s)) ⊎ ((role : Role) × Goes t (role_of s m) role x y × (r ≡ goes_to m (role_of s m) role y ∷ s))

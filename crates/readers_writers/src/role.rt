@@ -11,4 +11,6 @@ pub enum Role {
 pub struct RoleChange {
     pub mutex: u64,
     pub now: Role,
+    /// Where the thread has ended to read, how many readers it left there.
+    pub left: Option<u64>,
 }

@@ -1,7 +1,7 @@
 //! The use of the package by readers and writers.
 ghost use Rattle.std.specs.Prelude.{[], ◌∷◌};
 ghost use Rattle.readers_writers.specs.declared.role.Role.TheVariants.{Idle, Reading, Writing};
-ghost use Rattle.readers_writers.specs.Roles.{AreRoles, Allowed, IsKnown, turn};
+ghost use Rattle.readers_writers.specs.Roles.{AreRoles, Allowed, IsKnown, goes_to, role_of};
 ghost use Rattle.readers_writers.specs.RoleLaws.{fits_known, roles_after};
 
 use crate::role::RoleChange;
@@ -43,13 +43,13 @@ pub struct Writes;
 pub struct Idles;
 
 impl Change<RwUses> for Reads {
-    ghost after = { λ w m t x y s. turn m Reading ∷ s };
+    ghost after = { λ w m t x y s. goes_to m (role_of s m) Reading y ∷ s };
 }
 
 impl Change<RwUses> for Writes {
-    ghost after = { λ w m t x y s. turn m Writing ∷ s };
+    ghost after = { λ w m t x y s. goes_to m (role_of s m) Writing y ∷ s };
 }
 
 impl Change<RwUses> for Idles {
-    ghost after = { λ w m t x y s. turn m Idle ∷ s };
+    ghost after = { λ w m t x y s. goes_to m (role_of s m) Idle y ∷ s };
 }

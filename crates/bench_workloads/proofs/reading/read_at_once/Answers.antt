@@ -6,7 +6,7 @@ use Rattle.nub_rule.proofs.Each.{at_below}
 use Rattle.nub.proofs.Users.{first_own, idle_done, from_at}
 use Rattle.readers_writers.specs.declared.state.RwState.{RwState}
 use Rattle.readers_writers.proofs.Opening.{roles_begin}
-use Rattle.bench_workloads.specs.Reading.{HasCounted, HasState, Player, role_by, turns, writes_by}
+use Rattle.bench_workloads.specs.Reading.{HasCounted, HasState, Player, writes_by}
 use Rattle.bench_workloads.proofs.Crewing.{came_back, only_value}
 use Rattle.bench_workloads.proofs.Roles.{left_free, writes-sum}
 use Rattle.bench_workloads.proofs.reading.read_at_once.Goals as goal
@@ -34,7 +34,7 @@ close_package-requires-clause-threads g c κs = λ n t at.
     let p = c.in_ok-shared.shared in
     let readers = c.args.sides.first in
     let back = came_back (HasCounted p readers c.args.times) c.in_ok-shared.threads.items c.in-Ok.writes.items n t (λ k x is. (c.in_ok-shared.ensures.threads k x is).number) (c.in-Ok.ensures.each n t at) in
-    idle_done p n (turns (role_by readers n) c.args.times) t back.2.0
+    idle_done p n back.2.0.0 t back.2.0.1
 
 pub returns : goal.returns
 returns g c =
@@ -52,9 +52,9 @@ returns g c =
     let one = c.in_ok-closed.ensures.values.0 ∙ ap (λ l. l.mutexes) (c.in_ok-shared.ensures.package.0 ∙ c.of-layout.ensures) in
     let same = c.in_ok-closed.ensures.threads in
     record {
-      free = left_free readers times threads c.in_ok-closed.closed.values c.in_ok-closed.ensures.values.1 (λ n t at. (played n t at).2.0.share) one;
+      free = left_free readers times threads c.in_ok-closed.closed.values c.in_ok-closed.ensures.values.1 (λ n t at. let h = (played n t at).2.0 in (h.0, h.1.share, h.2)) one;
       count = ap length same ∙ all;
-      each = λ n t there. (played n t (ap (λ l. get_elem? l n) (sym same) ∙ there)).2.0.share;
+      each = λ n t there. let h = (played n t (ap (λ l. get_elem? l n) (sym same) ∙ there)).2.0 in (h.0, h.1.share, h.2);
       sum = writes-sum readers c.args.sides.second times writes (omega arith) (λ k w at.
           let low = (from_at writes k w at).0 in
           let t = at_below threads k (omega arith) in

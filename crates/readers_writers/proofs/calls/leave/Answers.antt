@@ -4,7 +4,7 @@ use Rattle.nub_rule.specs.Plays.{broadcast_action, event, release_event}
 use Rattle.nub.specs.Rest.{Adds}
 use Rattle.nub.proofs.Adding.{added, adds_on}
 use Rattle.readers_writers.specs.declared.role.Role.TheVariants.{Idle}
-use Rattle.readers_writers.specs.Roles.{Allowed, turn}
+use Rattle.readers_writers.specs.Roles.{Allowed, goes_to, role_of}
 use Rattle.readers_writers.proofs.calls.leave.Goals as goal
 
 pub release-requires-clause-may : goal.release-requires-clause-may
@@ -14,7 +14,7 @@ release-requires-clause-may g c κs within =
     let told = c.broadcast.ensures in (
       may.0,
       ap (λ l. get_elem? l m) told.held ∙ may.1,
-      λ w s world share. subst (λ (n : ℕ). Allowed m n may.0 c.args.state s (turn m Idle ∷ s)) (sym told.same.number) (may.2 s (sym told.share ∙ share)),
+      λ w s world share. subst (λ (n : ℕ). Allowed m n may.0 c.args.state s (goes_to m (role_of s m) Idle c.args.state ∷ s)) (sym told.same.number) (may.2 s (sym told.share ∙ share)),
     )
 
 pub release-requires-else-wake-clause-may : goal.release-requires-else-wake-clause-may
