@@ -15,7 +15,9 @@ use Rattle.command_jobs.specs.JobLines.{IsLawful, line_text}
 
 -- the line of a job
 abbrev pub job_at : Reader JobLine
-job_at = either (after_word (codes "stop" ++ 10 ∷ []) (λ rest. Ok (Stop, rest))) (as_value Sum (after_word (codes "sum ") (number_at 0 1000001 10)))
+job_at =
+    either (after_word (codes "stop" ++ 10 ∷ []) (λ rest. Ok (Stop, rest)))
+    (as_value Sum (after_word (codes "sum ") (number_at 0 1000001 10)))
 
 abbrev IsStop : JobLine → Type 0
 IsStop Stop = Unit {0}

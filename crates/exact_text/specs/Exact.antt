@@ -28,7 +28,8 @@ IsTooLong Text room input = (room < length input) × Begins Text (take room inpu
 -- as the bytes given decide nothing. Memory is never the reason of a reader that takes none.
 abbrev pub HasReason : (List ℕ → Type 0) → (List ℕ → ℕ) → ℕ → Option (List ℕ) → Option (List ℕ) → ℕ → ℕ → TextFault → Type 0
 HasReason Text room lines rest left' before now Memory = ⊥
-HasReason Text room lines rest left' before now (BadLine k) = (lines < k) × IfSome rest (λ input. IsShown Text (room input) input (k - lines))
+HasReason Text room lines rest left' before now (BadLine k) =
+    (lines < k) × IfSome rest (λ input. IsShown Text (room input) input (k - lines))
 HasReason Text room lines rest left' before now TooLong = IfSome rest (λ input. IsTooLong Text (room input) input)
 HasReason Text room lines rest left' before now Read =
     Rose before now × ((given : List ℕ) × Consumes rest left' given × Begins Text given × (length given ≤ room given))

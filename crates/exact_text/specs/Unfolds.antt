@@ -4,7 +4,8 @@ use Rattle.std.specs.List.{AllByRecursion, flat_map}
 use Rattle.exact_text.specs.Prefixes.{IsLine}
 
 -- A text of the language is a lawful line, and a text of the language that comes next.
-pub record Unfolds {X : Type 0} (Text : List ℕ → Type 0) (lawful : X → Type 0) (text : X → List ℕ) (Next : X → List ℕ → Type 0) : Type 0 where
+pub record Unfolds {X : Type 0} (Text : List ℕ → Type 0) (lawful : X → Type 0) (text : X → List ℕ)
+    (Next : X → List ℕ → Type 0) : Type 0 where
   pub opens : (bytes : List ℕ) → Text bytes → (x : X) × (rest : List ℕ) × lawful x × Next x rest × (bytes ≡ text x ++ rest)
   pub closes : (x : X) (rest : List ℕ) → lawful x → Next x rest → Text (text x ++ rest)
   pub goes_on : (x : X) → lawful x → (rest : List ℕ) × Next x rest
