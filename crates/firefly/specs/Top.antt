@@ -42,7 +42,8 @@ WordsWant e status = (status ≡ Memory) × (e.new_trees ≡ e.trees) × IsStill
 abbrev pub Answers : Task → Effects → Status → Type 0
 Answers check e status =
     CheckAnswers e.input e.out e.notes status × Found e.input status × TellsFault e.input status × (e.new_trees ≡ e.trees)
-Answers run e status = RunAnswers e.input e.out e.notes status × Decides e.input status × (e.new_trees ≡ e.trees)
+Answers run e status =
+    RunAnswers e.input e.out e.notes status × Decides e.input status × TellsFault e.input status × (e.new_trees ≡ e.trees)
 Answers (index o) e status =
     IndexAnswers o e.trees e.new_trees e.out e.notes status × AreSpared o e.trees e.new_trees × IsStill e.input
 Answers (trace o) e status =

@@ -1,6 +1,7 @@
 //! The command `run`.
 ghost use Rattle.script_text.specs.Text.{IsScript};
 ghost use Rattle.command_endings.specs.Changes.{change_of};
+ghost use Rattle.command_endings.specs.Endings.{TellsFault};
 ghost use Rattle.firefly.specs.RunCommand.{RunAnswers, Runs, Decides, SaysFault};
 
 use crate::print_trace::print_trace;
@@ -58,6 +59,7 @@ pub fn run_input<R: Threads + Wait + Sync, I: Source, O: Sink, N: Sink>(
     ensures answers { RunAnswers (change_of I.left I.faults input.old input.new) (change_of O.held O.faults out.old out.new)
         (change_of N.held N.faults notes.old notes.new) result }
     ensures exact { Decides (change_of I.left I.faults input.old input.new) result }
+    ensures told { TellsFault (change_of I.left I.faults input.old input.new) result }
 {
     match read_script(alloc, input) {
         Ok(script) => run_read(rt, alloc, &script, out, notes),

@@ -21,7 +21,7 @@ pub returns-in-Ok-Run : goal.returns-in-Ok-Run
 returns-in-Ok-Run g c =
     record {
       usage = λ none. absurd (none _ c.in-Ok-Run.ensures.said);
-      answers = λ t says. let k = rw c.in-Ok-Run.field-0-is at c.in-Ok-Run.ensures in answered t _ _ _ (k.only t says) (c.run_input.ensures.answers, c.run_input.ensures.exact, refl);
+      answers = λ t says. let k = rw c.in-Ok-Run.field-0-is at c.in-Ok-Run.ensures in answered t _ _ _ (k.only t says) (c.run_input.ensures.answers, c.run_input.ensures.exact, c.run_input.ensures.told, refl);
       kept = λ _. kept-same _ c.requires.agree;
       own = own-same _ c.requires.agree;
     }
