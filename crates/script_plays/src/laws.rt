@@ -1,0 +1,12 @@
+//! Laws of plays.
+ghost use Rattle.script_plays.specs.Laws.{PlaysAreLegal, PlaysHaveOneScene};
+
+/// A play is a legal list of events.
+pub fn plays_are_legal()
+    ensures { PlaysAreLegal }
+{}
+
+/// A play leads to one scene.
+pub fn plays_have_one_scene()
+    ensures { PlaysHaveOneScene }
+{}

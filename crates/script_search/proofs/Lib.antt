@@ -1,0 +1,9 @@
+pub mod Shown
+pub mod Rows
+pub mod Planning
+pub mod Ending
+pub mod Keyed
+pub mod Moved
+pub mod Growing
+pub mod Trying
+pub mod Choosing
