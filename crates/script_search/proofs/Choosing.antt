@@ -1,5 +1,5 @@
 -- The choices of a script's line are lawful, and are those that its thread has.
-use Rattle.std.proofs.Common.{◌≡◌, ◌≢◌, ◌⊎◌, inl, inr, ℕ, zero, suc, ◌+◌, ◌<◌, ◌≤◌, Bool, true, false, cond, List, [], ◌∷◌, length, drop, refl, sym, ap, subst, ◌∙◌, arith, Some, None, Option as Opt}
+use Rattle.std.proofs.Common.{◌≡◌, ◌≢◌, inl, inr, ℕ, zero, suc, ◌<◌, ◌≤◌, Bool, cond, List, [], ◌∷◌, length, drop, refl, sym, ap, subst, ◌∙◌, arith, Some}
 use Rattle.std.specs.List.{slice_get}
 use Rattle.std.proofs.lemmas.Bool.Decides.{eqb_tells}
 use Rattle.larch_actions.specs.declared.event.Version.{Version}
@@ -7,9 +7,7 @@ use Rattle.larch_actions.specs.declared.event.Version.TheVariants.{One, Two}
 use Rattle.larch_actions.specs.declared.event.Layout.{Layout}
 use Rattle.larch_actions.specs.declared.event.CondId.{CondId}
 use Rattle.larch_actions.specs.declared.event.Action.TheVariants as action
-use Rattle.larch_actions.specs.declared.thread_set.ThreadSet.{ThreadSet}
-use Rattle.larch_actions.specs.Sets.{in_set}
-use Rattle.larch_actions.specs.Layout.{HasNames, IsNamed as HasNamedAction}
+use Rattle.larch_actions.specs.Layout.{IsNamed as HasNamedAction}
 use Rattle.script_text.specs.declared.line.Operation.{Operation}
 use Rattle.script_text.specs.declared.line.Operation.TheVariants.{Acquire, Release, Wait, AlertWait, Signal, Broadcast, P, V, Alert, TestAlert, AlertP, Add, Until, AlertUntil, Fork, Join}
 use Rattle.script_text.specs.declared.line.Line.{Line}
@@ -18,12 +16,12 @@ use Rattle.script_text.specs.declared.table.Fate.TheVariants as fate
 use Rattle.script_text.specs.Table.{fate_of}
 use Rattle.script_text.specs.Operations.{IsNamed, Holding, Forked, MayCome, MayFollow, MayLive, holding_after, forked_with, none_held, none_forked}
 use Rattle.script_text.specs.Text.{IsScript}
-use Rattle.script_text.specs.Runs.{event, lines_of}
+use Rattle.script_text.specs.Runs.{lines_of}
 use Rattle.script_plays.specs.declared.choice.Choice.{Choice}
-use Rattle.script_plays.specs.Choices.{choices, three, next, stays, IsOneOf, MayMake, Gives}
+use Rattle.script_plays.specs.Choices.{choices, three, next, IsOneOf, MayMake, Gives}
 use Rattle.script_plays.specs.Scenes.{rest_of}
 use Rattle.script_search.specs.Boards.{Moment, played_of}
-use Rattle.script_search.specs.Tries.{MayTry, MayTryAll, MaySignal}
+use Rattle.script_search.specs.Tries.{MayTryAll, MaySignal}
 use Rattle.script_search.proofs.Planning.{rest_here}
 
 -- a line of a thread may come where it stands
@@ -117,7 +115,7 @@ makes_one (AlertUntil m c n) x h = h
 makes_one (Fork u) x h = h
 makes_one (Join u) x h = h
 
-one_made : (o : Operation) (x : Choice) → MayMake o x → ((c : CondId) → o ≡ Signal c → ⊥) → IsOneOf (choices o) x
+pub one_made : (o : Operation) (x : Choice) → MayMake o x → ((c : CondId) → o ≡ Signal c → ⊥) → IsOneOf (choices o) x
 one_made (Signal c) x h not = absurd (not c refl)
 one_made (Acquire m) x h not = h
 one_made (Release m) x h not = h
@@ -154,7 +152,7 @@ three_is (a ∷ b ∷ c ∷ rest) (suc zero) x e = inr (inl (cc))
 three_is (a ∷ b ∷ c ∷ rest) (suc (suc zero)) x e = inr (inr (inl (cc)))
 three_is (a ∷ b ∷ c ∷ rest) (suc (suc (suc k))) x e = absurd (cc)
 
-is_three : (cs : List Choice) (x : Choice) → length cs ≤ 3 → IsOneOf cs x → (k : ℕ) × (slice_get (three cs) k ≡ Some (Some x))
+pub is_three : (cs : List Choice) (x : Choice) → length cs ≤ 3 → IsOneOf cs x → (k : ℕ) × (slice_get (three cs) k ≡ Some (Some x))
 is_three [] x few h = absurd h
 is_three (a ∷ []) x few (inl e) = (zero, ap (λ z. Some (Some z)) (sym e))
 is_three (a ∷ []) x few (inr h) = absurd h
@@ -167,7 +165,7 @@ is_three (a ∷ b ∷ c ∷ rest) x few (inr (inr (inl e))) = (suc (suc zero), a
 is_three (a ∷ b ∷ c ∷ []) x few (inr (inr (inr h))) = absurd h
 is_three (a ∷ b ∷ c ∷ d ∷ rest) x few (inr (inr (inr h))) = absurd (omega arith)
 
-choices_few : (o : Operation) → length (choices o) ≤ 3
+pub choices_few : (o : Operation) → length (choices o) ≤ 3
 choices_few (Acquire m) = omega arith
 choices_few (Release m) = omega arith
 choices_few (Wait m c) = omega arith
@@ -189,7 +187,7 @@ gives_line : (v : Version) (x : Line) (rest : List Line) (c : Choice) → MayMak
 gives_line One x rest c h = h
 gives_line Two x rest c h = h
 
-line_gives : (v : Version) (x : Line) (rest : List Line) (c : Choice) → Gives v (x ∷ rest) c → MayMake x.operation c
+pub line_gives : (v : Version) (x : Line) (rest : List Line) (c : Choice) → Gives v (x ∷ rest) c → MayMake x.operation c
 line_gives One x rest c h = h
 line_gives Two x rest c h = h
 

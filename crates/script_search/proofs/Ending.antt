@@ -1,14 +1,14 @@
 -- What a search that has found all says of a script, and what one scene says of its plays.
-use Rattle.std.proofs.Common.{◌≡◌, ◌≢◌, ◌⊎◌, ⊎_elim, inl, inr, ℕ, zero, suc, ◌+◌, ◌<◌, ◌≤◌, List, [], ◌∷◌, ◌++◌, length, refl, ap, sym, subst, ◌∙◌, arith, Some}
+use Rattle.std.proofs.Common.{◌≡◌, inl, inr, ℕ, zero, suc, ◌<◌, List, [], ◌∷◌, ◌++◌, length, sym, subst, ◌∙◌, arith, Some}
 use Rattle.std.specs.List.{slice_get}
 use Rattle.larch_actions.specs.declared.event.Event.{Event}
 use Rattle.larch_actions.specs.declared.event.Layout.{Layout}
 use Rattle.script_text.specs.declared.line.Line.{Line}
 use Rattle.script_plays.specs.Scenes.{Scene, first_scene}
-use Rattle.script_plays.specs.Plays.{Goes, GoesOn, Plays, IsPlayTo, IsPlay, IsWhole, CanGoOn, IsStuck, Ends, AllFinished}
+use Rattle.script_plays.specs.Plays.{Goes, GoesOn, Plays, IsPlayTo, IsStuck, Ends, AllFinished}
 use Rattle.script_plays.proofs.Scened.{plays_more, plays_last, plays_have_one_scene}
 use Rattle.script_search.specs.Boards.{Moment, scene_of}
-use Rattle.script_search.specs.Seen.{HasScene, IsChild, IsSeen, IsClosed, IsAlive}
+use Rattle.script_search.specs.Seen.{HasScene, IsSeen, IsClosed, IsAlive}
 use Rattle.script_search.proofs.Planning.{before_end}
 
 -- an event that leads on from a scene is there at each that is equal to it
@@ -54,6 +54,6 @@ is_stuck l xs h s play not no_more = record {
   play = (s, play);
   unfinished = λ whole. not (subst (λ (z : Scene). AllFinished l xs z) (plays_have_one_scene l xs h whole.0 s whole.1 play) whole.2);
   no_more = λ on.
-    let last = plays_last l xs (first_scene l.version) h on.0 on.1.0 on.1.1 in
-    no_more (on.0, on.1.0, goes_from l xs last.0 s on.0 on.1.0 (plays_have_one_scene l xs h last.0 s last.1 play) last.2);
+      let last = plays_last l xs (first_scene l.version) h on.0 on.1.0 on.1.1 in
+      no_more (on.0, on.1.0, goes_from l xs last.0 s on.0 on.1.0 (plays_have_one_scene l xs h last.0 s last.1 play) last.2);
 }

@@ -1,8 +1,8 @@
 -- One board more keeps what a search has found.
-use Rattle.std.proofs.Common.{◌≡◌, ◌≢◌, ◌⊎◌, ⊎_elim, inl, inr, ℕ, zero, suc, ◌+◌, ◌<◌, ◌≤◌, Bool, true, false, cond, eqb, List, [], ◌∷◌, ◌++◌, length, length-append, map, get_or, refl, sym, ap, subst, ◌∙◌, arith, eq-eqb, Some, None}
+use Rattle.std.proofs.Common.{◌≡◌, ◌≢◌, ◌⊎◌, inl, inr, ℕ, zero, suc, ◌+◌, ◌<◌, Bool, true, false, cond, eqb, List, [], ◌∷◌, ◌++◌, length, length-append, map, get_or, refl, sym, ap, subst, ◌∙◌, arith, eq-eqb, Some, None}
 use Rattle.std.specs.List.{slice_get}
 use Rattle.std.specs.declared.option.Option.{Option}
-use mathlib.Core.Option.{none, some, some-injective, some-ne-none}
+use mathlib.Core.Option.{none, some-injective, some-ne-none}
 use Rattle.larch_actions.specs.declared.event.Event.{Event}
 use Rattle.larch_actions.specs.declared.event.Layout.{Layout}
 use Rattle.larch_actions.specs.declared.event.Pending.{Pending}
@@ -10,15 +10,15 @@ use Rattle.larch_actions.specs.declared.event.Pending.TheVariants.{Nothing, Wait
 use Rattle.larch_actions.specs.State.{shown_at}
 use Rattle.larch_actions.proofs.Shown.{shown_at-get_or}
 use Rattle.script_text.specs.declared.line.Line.{Line}
-use Rattle.script_plays.specs.Scenes.{Scene, first_scene}
+use Rattle.script_plays.specs.Scenes.{Scene}
 use Rattle.script_plays.specs.Plays.{Goes}
 use Rattle.script_search.specs.declared.board.Place.{Place}
 use Rattle.script_search.specs.declared.board.Place.TheVariants as place
 use Rattle.script_search.specs.declared.board.Thread.{Thread}
-use Rattle.script_search.specs.Boards.{Moment, scene_of, spec_of, played_of, IsBoard, pending_of, life_of, life_beyond, is_inside, holder_of}
+use Rattle.script_search.specs.Boards.{Moment, scene_of, IsBoard, pending_of, life_of, life_beyond, is_inside, holder_of}
 use Rattle.script_search.specs.Keys.{key_of}
 use Rattle.script_search.specs.Founds.{IsThere}
-use Rattle.script_search.specs.Seen.{HasScene, IsChild, IsSeen}
+use Rattle.script_search.specs.Seen.{IsChild, IsSeen}
 use Rattle.script_search.proofs.Rows.{nobody}
 use Rattle.script_search.proofs.Planning.{before_end}
 
@@ -103,7 +103,7 @@ module _ (l : Layout) (m n : Moment) (bm : IsBoard l m) (bn : IsBoard l n) (e : 
       let lives = view_at (λ (x : Thread). life_of x.place) (life_beyond m.second) (life_beyond n.second) m n j low low2 (ap (λ (s : Scene). s.spec.life j) e) in
       let waits = view_at (λ (x : Thread). pending_of x.place) Nothing Nothing m n j low low2 (ap (λ (s : Scene). s.spec.pending j) e) in
       let inside : (c : ℕ) → is_inside c (get_or m.threads j nobody).place ≡ is_inside c (get_or n.threads j nobody).place
-          = λ c. view_at (λ (x : Thread). is_inside c x.place) false false m n j low low2 (ap (λ (s : Scene). s.spec.members c j) e) in
+      = λ c. view_at (λ (x : Thread). is_inside c x.place) false false m n j low low2 (ap (λ (s : Scene). s.spec.members c j) e) in
       let places = same_place (get_or m.threads j nobody).place (get_or n.threads j nobody).place lives waits inside in
       λ i. record { played = played i; place = places i; alerted = alerted i }
 
@@ -188,25 +188,25 @@ module _ (l : Layout) (xs : List Line) (ms : List Moment) (parents : List ℕ) (
     size = length-append parents (p ∷ []) ∙ (ap (λ n. n + 1) seen.size ∙ sym (length-append ms (m ∷ [])));
     first = (seen.first.0, seen.first.1, there_before ms m seen.first.1 seen.first.0 seen.first.2, seen.first.3);
     root = λ n at. elim (there_cases ms m n zero at) [
-        | inl old ↦ seen.root n old
-        | inr last ↦ absurd (omega (arith, last.0, before_end ms p a there))
-      ];
+      | inl old ↦ seen.root n old
+      | inr last ↦ absurd (omega (arith, last.0, before_end ms p a there))
+    ];
     boards = λ k n at. elim (there_cases ms m n k at) [
-        | inl old ↦ seen.boards k n old
-        | inr last ↦ subst (λ (z : Moment). IsBoard l z) last.1 board
-      ];
+      | inl old ↦ seen.boards k n old
+      | inr last ↦ subst (λ (z : Moment). IsBoard l z) last.1 board
+    ];
     linked = λ k n at low. elim (there_cases ms m n k at) [
-        | inl old ↦ old_child k n (seen.linked k n old low)
-        | inr last ↦ subst (λ (z : Moment). IsChild l xs (ms ++ m ∷ []) (parents ++ p ∷ []) k z) last.1 (new_child k last.0)
-      ];
+      | inl old ↦ old_child k n (seen.linked k n old low)
+      | inr last ↦ subst (λ (z : Moment). IsChild l xs (ms ++ m ∷ []) (parents ++ p ∷ []) k z) last.1 (new_child k last.0)
+    ];
     distinct = λ i k n o ati atk low. elim (there_cases ms m o k atk) [
-        | inl old ↦ elim (there_cases ms m n i ati) [
-            | inl older ↦ seen.distinct i k n o older old low
-            | inr last ↦ absurd (omega (arith, last.0, before_end ms k o old))
-          ]
-        | inr last ↦ elim (there_cases ms m n i ati) [
-            | inl older ↦ λ same. apart i n older (same ∙ ap scene_of (sym last.1))
-            | inr both ↦ absurd (omega (arith, last.0, both.0))
-          ]
-      ];
+      | inl old ↦ elim (there_cases ms m n i ati) [
+        | inl older ↦ seen.distinct i k n o older old low
+        | inr last ↦ absurd (omega (arith, last.0, before_end ms k o old))
+      ]
+      | inr last ↦ elim (there_cases ms m n i ati) [
+        | inl older ↦ λ same. apart i n older (same ∙ ap scene_of (sym last.1))
+        | inr both ↦ absurd (omega (arith, last.0, both.0))
+      ]
+    ];
   }

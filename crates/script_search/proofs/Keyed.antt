@@ -1,6 +1,6 @@
 -- Boards of one layout with the same numbers are the same, and boards that show the same scene are.
-use Rattle.std.proofs.Common.{◌≡◌, ◌≢◌, ◌⊎◌, inl, inr, ℕ, zero, suc, ◌+◌, ◌<◌, Bool, true, false, cond, eqb, nat_eq, List, [], ◌∷◌, ◌++◌, length, refl, sym, ap, subst, ◌∙◌, append_assoc, map, ◌||◌, if◌then◌else◌, arith, Some, None, Vec, Global}
-use Rattle.std.specs.List.{flat_map, slice_get, list_any}
+use Rattle.std.proofs.Common.{◌≡◌, ℕ, zero, suc, Bool, true, false, cond, eqb, nat_eq, List, [], ◌∷◌, ◌++◌, length, refl, sym, ap, ◌∙◌, append_assoc, map, ◌||◌, if◌then◌else◌, arith, Some, None, Vec, Global}
+use Rattle.std.specs.List.{slice_get, list_any}
 use Rattle.std.specs.Cmp.Lexicographic.{pointwise}
 use Rattle.std.proofs.lemmas.List.{map-append}
 use Rattle.std.proofs.lemmas.Slice.Eq.{slice_eq-Decides}
@@ -13,7 +13,7 @@ use Rattle.script_search.specs.declared.board.Thread.{Thread}
 use Rattle.script_search.specs.Boards.{Moment, IsBoard}
 use Rattle.indexmap.specs.IndexSet.{insert_key}
 use Rattle.script_search.specs.Founds.{IsThere}
-use Rattle.script_search.specs.Keys.{tag_of, mutex_in, cond_in, bit, cells_of, threads_key, holder_cell, holders_key, available_key, key_of}
+use Rattle.script_search.specs.Keys.{tag_of, mutex_in, cond_in, bit, threads_key, holders_key, available_key, key_of}
 
 -- the place with these numbers
 place_at : ℕ → ℕ → ℕ → Place

@@ -7,3 +7,4 @@ pub mod Moved
 pub mod Growing
 pub mod Trying
 pub mod Choosing
+pub mod Expanding

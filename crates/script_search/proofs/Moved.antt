@@ -1,21 +1,17 @@
 -- A board that was changed by the row of an action, by the turn of its thread and by silent lines shows where the event leads.
-use Rattle.std.proofs.Common.{◌≡◌, ◌⊎◌, inl, inr, ℕ, zero, suc, ◌<◌, ◌≤◌, Bool, true, false, List, [], ◌∷◌, length, drop, refl, ap, sym, subst, ◌∙◌, arith, MatchBool}
-use Rattle.larch_actions.specs.declared.event.Action.{Action}
-use Rattle.larch_actions.specs.declared.event.Action.TheVariants as action
-use Rattle.larch_actions.specs.declared.event.Event.{Event}
+use Rattle.std.proofs.Common.{◌≡◌, ℕ, zero, suc, ◌<◌, ◌≤◌, Bool, true, false, List, [], ◌∷◌, length, drop, refl, ap, sym, subst, ◌∙◌, arith}
 use Rattle.larch_actions.specs.declared.event.Layout.{Layout}
 use Rattle.larch_actions.specs.declared.event.Version.{Version}
 use Rattle.larch_actions.specs.declared.event.Version.TheVariants.{One, Two}
-use Rattle.larch_actions.specs.Actions.{Spec, MayAct, Acts, acted}
+use Rattle.larch_actions.specs.Actions.{MayAct, Acts}
 use Rattle.script_text.specs.declared.line.Line.{Line}
 use Rattle.script_text.specs.Runs.{event, lines_of}
 use Rattle.script_plays.specs.declared.choice.Choice.{Choice}
-use Rattle.script_plays.specs.declared.choice.Turn.{Turn}
 use Rattle.script_plays.specs.declared.choice.Turn.TheVariants.{Stays, Next}
-use Rattle.script_plays.specs.Choices.{Gives, stays}
+use Rattle.script_plays.specs.Choices.{Gives}
 use Rattle.script_plays.specs.Scenes.{Scene, rest_of, settled, turned}
 use Rattle.script_plays.specs.Plays.{Goes}
-use Rattle.script_search.specs.Boards.{Moment, spec_of, played_of, scene_of, IsBoard, SameSize, Keeps, Steps}
+use Rattle.script_search.specs.Boards.{Moment, spec_of, played_of, scene_of, IsBoard, SameSize, Steps}
 
 -- a choice that goes on to the next line has a line
 has_line : (v : Version) (rest : List Line) (c : Choice) → Gives v rest c → c.turn ≡ Next → (x : Line) × (after : List Line) × (rest ≡ x ∷ after)

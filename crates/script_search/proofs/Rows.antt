@@ -1,5 +1,5 @@
 -- The changes of a board are those of the actions' rows.
-use Rattle.std.proofs.Common.{◌≡◌, ◌≢◌, ◌⊎◌, ⊎_elim, inl, inr, ℕ, suc, ◌<◌, ◌≤◌, Bool, true, false, cond, eqb, not, List, length, get_or, refl, sym, ap, subst, ◌∙◌, arith, eq-eqb, ne_eqb, get_or-set_same, get_or-set_other, set, length-set, ◌+◌}
+use Rattle.std.proofs.Common.{◌≡◌, ◌≢◌, ◌⊎◌, ⊎_elim, inl, inr, ℕ, ◌<◌, ◌≤◌, Bool, true, false, cond, eqb, List, length, get_or, refl, sym, ap, subst, ◌∙◌, arith, eq-eqb, ne_eqb, get_or-set_same, get_or-set_other, set, ◌+◌}
 use Rattle.std.proofs.lemmas.Bool.Decides.{nat_tests}
 use Rattle.std.proofs.lemmas.List.{get_or_default}
 use mathlib.Core.Logic.{dite}
@@ -35,18 +35,18 @@ elsewhere : (p : Place) (m : MutexId) (c : CondId) (k : ℕ) → (pending_of p �
 elsewhere place.Unborn m c k h ne = refl
 elsewhere place.Running m c k h ne = refl
 elsewhere (place.Waiting m q inside) n c k h ne = elim h [
-    | inl e ↦ let same : q ≡ c.0 = ap cond_of e in rw (ne_eqb k q (λ z. ne (z ∙ same))) refl
-    | inr e ↦ absurd (cc)
-  ]
+  | inl e ↦ let same : q ≡ c.0 = ap cond_of e in rw (ne_eqb k q (λ z. ne (z ∙ same))) refl
+  | inr e ↦ absurd (cc)
+]
   where
     cond_of : Pending → ℕ
     cond_of Nothing = 0
     cond_of (Waiting a b) = b.0
     cond_of (AlertWaiting a b) = b.0
 elsewhere (place.AlertWaiting m q inside) n c k h ne = elim h [
-    | inl e ↦ absurd (cc)
-    | inr e ↦ let same : q ≡ c.0 = ap cond_of e in rw (ne_eqb k q (λ z. ne (z ∙ same))) refl
-  ]
+  | inl e ↦ absurd (cc)
+  | inr e ↦ let same : q ≡ c.0 = ap cond_of e in rw (ne_eqb k q (λ z. ne (z ∙ same))) refl
+]
   where
     cond_of : Pending → ℕ
     cond_of Nothing = 0
@@ -87,6 +87,7 @@ module _ (f : ℕ → ℕ → Bool) (t : ℕ) where
       other k j = dite (ℕ_discrete j t)
           (λ e. rw (eq-eqb j t e) (sym (ap (f k) e ∙ out k)))
           (λ ne. rw (ne_eqb j t ne) refl)
+
       by : (k j : ℕ) → cond (eqb j t) (cond (eqb k c) true false) (f k j) ≡ cond (eqb k c) (put (f c) t true) (f k) j
       by k j = dite (ℕ_discrete k c)
           (λ e. rw (eq-eqb k c e) (ap (λ z. cond (eqb j t) true (f z j)) e))
@@ -99,6 +100,7 @@ module _ (f : ℕ → ℕ → Bool) (t : ℕ) where
       other k j ne = dite (ℕ_discrete j t)
           (λ e. rw (eq-eqb j t e) (sym (ap (f k) e ∙ out k ne)))
           (λ apart. rw (ne_eqb j t apart) refl)
+
       by : (k j : ℕ) → cond (eqb j t) false (f k j) ≡ cond (eqb k c) (put (f c) t false) (f k) j
       by k j = dite (ℕ_discrete k c)
           (λ e. rw (eq-eqb k c e) (ap (λ z. cond (eqb j t) false (f z j)) e))
@@ -178,11 +180,11 @@ module _ (m : Moment) (c : ℕ) (left : ℕ → Bool) (new : List Thread) (h : I
       → ((j : ℕ) → after j d ≡ d) → (j : ℕ) → shown_at view d new j ≡ after j (shown_at view d m.threads j)
   shown view d after same beyond j = ⊎_elim
       (λ (low : j < length m.threads).
-        let size = h.size in
-        shown_at-get_or view d new j nobody (omega (arith, size)) ∙ (ap view (h.each j nobody low) ∙ (same j ∙ sym (ap (after j) (shown_at-get_or view d m.threads j nobody low)))))
+      let size = h.size in
+      shown_at-get_or view d new j nobody (omega (arith, size)) ∙ (ap view (h.each j nobody low) ∙ (same j ∙ sym (ap (after j) (shown_at-get_or view d m.threads j nobody low)))))
       (λ (high : length m.threads ≤ j).
-        let size = h.size in
-        shown_at-past view d new j (omega (arith, size)) ∙ (sym (beyond j) ∙ sym (ap (after j) (shown_at-past view d m.threads j high))))
+      let size = h.size in
+      shown_at-past view d new j (omega (arith, size)) ∙ (sym (beyond j) ∙ sym (ap (after j) (shown_at-past view d m.threads j high))))
       (low_or_high j (length m.threads))
 
   same_view : {Y : Type 0} (view : Thread → Y) (d : Y) → ((b : Bool) (x : Thread) → view (thin c b x) ≡ view x) → shown_at view d new ≡ shown_at view d m.threads
@@ -194,18 +196,18 @@ module _ (m : Moment) (c : ℕ) (left : ℕ → Bool) (new : List Thread) (h : I
   at_place : (k j : ℕ) → members_in new k j ≡ cond (eqb k c) (cond (left j) (members_in m.threads c j) false) (members_in m.threads k j)
   at_place k j = ⊎_elim
       (λ (low : j < length m.threads).
-        let size = h.size in
-        let x = get_or m.threads j nobody in
-        shown_at-get_or (λ (y : Thread). is_inside k y.place) false new j nobody (omega (arith, size))
-        ∙ (ap (λ (y : Thread). is_inside k y.place) (h.each j nobody low)
-        ∙ (inside-thin c (left j) k x.place
-        ∙ sym (ap (λ z. cond (eqb k c) (cond (left j) z false) (members_in m.threads k j)) (shown_at-get_or (λ (y : Thread). is_inside c y.place) false m.threads j nobody low)
-        ∙ ap (λ z. cond (eqb k c) (cond (left j) (is_inside c x.place) false) z) (shown_at-get_or (λ (y : Thread). is_inside k y.place) false m.threads j nobody low)))))
+      let size = h.size in
+      let x = get_or m.threads j nobody in
+      shown_at-get_or (λ (y : Thread). is_inside k y.place) false new j nobody (omega (arith, size))
+      ∙ (ap (λ (y : Thread). is_inside k y.place) (h.each j nobody low)
+      ∙ (inside-thin c (left j) k x.place
+      ∙ sym (ap (λ z. cond (eqb k c) (cond (left j) z false) (members_in m.threads k j)) (shown_at-get_or (λ (y : Thread). is_inside c y.place) false m.threads j nobody low)
+      ∙ ap (λ z. cond (eqb k c) (cond (left j) (is_inside c x.place) false) z) (shown_at-get_or (λ (y : Thread). is_inside k y.place) false m.threads j nobody low)))))
       (λ (high : length m.threads ≤ j).
-        let size = h.size in
-        let absent : (q : ℕ) → members_in m.threads q j ≡ false = λ q. shown_at-past (λ (y : Thread). is_inside q y.place) false m.threads j high in
-        shown_at-past (λ (y : Thread). is_inside k y.place) false new j (omega (arith, size))
-        ∙ sym (ap (λ z. cond (eqb k c) (cond (left j) z false) (members_in m.threads k j)) (absent c) ∙ (ap (λ z. cond (eqb k c) (cond (left j) false false) z) (absent k) ∙ empty (eqb k c) (left j))))
+      let size = h.size in
+      let absent : (q : ℕ) → members_in m.threads q j ≡ false = λ q. shown_at-past (λ (y : Thread). is_inside q y.place) false m.threads j high in
+      shown_at-past (λ (y : Thread). is_inside k y.place) false new j (omega (arith, size))
+      ∙ sym (ap (λ z. cond (eqb k c) (cond (left j) z false) (members_in m.threads k j)) (absent c) ∙ (ap (λ z. cond (eqb k c) (cond (left j) false false) z) (absent k) ∙ empty (eqb k c) (left j))))
       (low_or_high j (length m.threads))
     where
       empty : (a b : Bool) → cond a (cond b false false) false ≡ false

@@ -1,14 +1,11 @@
 -- What the lists of a board show, and how they change.
-use Rattle.std.proofs.Common.{◌≡◌, ◌≢◌, ◌↔◌, ◌⊎◌, ⊎_elim, IsTrue, ℕ, zero, suc, ◌+◌, ◌<◌, ◌≤◌, Bool, true, false, cond, eqb, List, [], ◌∷◌, length, length-set, get_or, get_or-set_same, get_or-set_other, set, refl, sym, ap, ◌∙◌, arith, eq-eqb, ne_eqb, below_more}
-use mathlib.Core.Logic.{dite}
-use native.Mathlib.Decide.{ℕ_discrete}
+use Rattle.std.proofs.Common.{◌≡◌, ◌≢◌, ◌↔◌, ◌⊎◌, ⊎_elim, IsTrue, ℕ, ◌+◌, ◌<◌, ◌≤◌, Bool, true, false, List, length, get_or, set, refl, sym, ap, ◌∙◌, arith, below_more}
 use mathlib.Core.Option.{none, some, some-ne-none}
 use Rattle.std.specs.declared.option.Option.{Option}
 use Rattle.larch_actions.specs.declared.event.Pending.{Pending}
-use Rattle.larch_actions.specs.declared.event.Pending.TheVariants.{Nothing, Waiting, AlertWaiting}
-use Rattle.larch_actions.specs.declared.event.Life.{Life}
+use Rattle.larch_actions.specs.declared.event.Pending.TheVariants.{Nothing}
 use Rattle.larch_actions.specs.declared.event.Life.TheVariants.{Live}
-use Rattle.larch_actions.specs.Actions.{Spec, put}
+use Rattle.larch_actions.specs.Actions.{put}
 use Rattle.larch_actions.specs.State.{shown_at, HasBegun}
 use Rattle.larch_actions.proofs.Shown.{shown_at-get_or, shown_at-set, shown_at-past, put-same}
 use Rattle.script_search.specs.declared.board.Place.{Place}

@@ -1,5 +1,5 @@
 -- Tries of single events make up tries of all.
-use Rattle.std.proofs.Common.{◌≡◌, ◌≢◌, ◌⊎◌, ⊎_elim, inl, inr, ℕ, zero, suc, ◌+◌, ◌<◌, Bool, true, false, cond, eqb, eq-eqb, ne_eqb, below_more, ◌||◌, List, [], ◌∷◌, ◌++◌, length, length-append, get_or, map, refl, sym, ap, subst, ◌∙◌, arith, Some, None, Option, MatchBool}
+use Rattle.std.proofs.Common.{◌≡◌, ◌⊎◌, inl, inr, ℕ, zero, suc, ◌+◌, ◌<◌, Bool, true, false, cond, eqb, eq-eqb, ne_eqb, below_more, ◌||◌, List, [], ◌∷◌, ◌++◌, length, length-append, get_or, map, refl, sym, ap, subst, ◌∙◌, arith, Some, None, Option, MatchBool}
 use Rattle.std.proofs.lemmas.List.{length-map}
 use Rattle.std.specs.List.{slice_get}
 use Rattle.larch_actions.specs.declared.event.Event.{Event}
@@ -21,7 +21,7 @@ use Rattle.script_plays.proofs.Scened.{goes_one, gives_one}
 use Rattle.script_search.specs.declared.found.Found.{Found}
 use Rattle.script_search.specs.Boards.{Moment, moment_of, spec_of, played_of, scene_of, IsBoard}
 use Rattle.script_search.specs.Keys.{key_of}
-use Rattle.script_search.specs.Founds.{moments_of, IsThere, IsKeyed, Pushes, Adds, IsFull}
+use Rattle.script_search.specs.Founds.{moments_of, IsKeyed, Adds, IsFull}
 use Rattle.script_search.specs.Seen.{HasScene, IsSeen}
 use Rattle.script_plays.specs.declared.choice.Choice.{Choice}
 use Rattle.script_search.specs.declared.board.Board.{Board}
@@ -76,38 +76,38 @@ module _ (l : Layout) (xs : List Line) (old new : Found) (p : ℕ) (a m : Moment
     (sound : IsSound l xs old) (at : IsAt old p a) (goes : Goes l xs (scene_of a) e (scene_of m)) (board : IsBoard l m) where
   added_grows : IsKeyed new → Adds old new m p → Grows l xs old new
   added_grows keyed adds = elim adds [
-      | inl same ↦ subst (λ (z : Found). Grows l xs old z) (sym same.1) (grows_none l xs old sound)
-      | inr pushed ↦
-          let push = pushed.1 in
-          record {
-            sound = record {
-              keyed = keyed;
-              seen = subst (λ (ms : List Moment). IsSeen l xs ms new.parents.items) (sym push.moments)
-                  (subst (λ (ps : List ℕ). IsSeen l xs (moments_of old ++ m ∷ []) ps) (sym push.parents)
-                  (seen_pushed l xs (moments_of old) old.parents.items sound.seen p a m e at goes board pushed.0));
-            };
-            kept = λ k n there. subst (λ (ms : List Moment). slice_get ms k ≡ Some n) (sym push.moments) (there_before (moments_of old) m n k there);
-            limit = push.limit;
-          }
-    ]
+    | inl same ↦ subst (λ (z : Found). Grows l xs old z) (sym same.1) (grows_none l xs old sound)
+    | inr pushed ↦
+        let push = pushed.1 in
+        record {
+          sound = record {
+            keyed = keyed;
+            seen = subst (λ (ms : List Moment). IsSeen l xs ms new.parents.items) (sym push.moments)
+                (subst (λ (ps : List ℕ). IsSeen l xs (moments_of old ++ m ∷ []) ps) (sym push.parents)
+                (seen_pushed l xs (moments_of old) old.parents.items sound.seen p a m e at goes board pushed.0));
+          };
+          kept = λ k n there. subst (λ (ms : List Moment). slice_get ms k ≡ Some n) (sym push.moments) (there_before (moments_of old) m n k there);
+          limit = push.limit;
+        }
+  ]
 
   added_has : Adds old new m p → HasScene (moments_of new) (scene_of m)
   added_has adds = elim adds [
-      | inl same ↦
-          let was = there_mapped key_of (moments_of old) same.0.0 (key_of m) same.0.1 in
-          let is = same_key l was.0 m (sound.seen.boards same.0.0 was.0 was.1) board was.2 in
-          subst (λ (z : Found). HasScene (moments_of z) (scene_of m)) (sym same.1) (same.0.0, was.0, was.1, ap scene_of is)
-      | inr pushed ↦
-          (length (moments_of old), m, subst (λ (ms : List Moment). slice_get ms (length (moments_of old)) ≡ Some m) (sym pushed.1.moments) (there_last (moments_of old) m (length (moments_of old)) refl), refl)
-    ]
+    | inl same ↦
+        let was = there_mapped key_of (moments_of old) same.0.0 (key_of m) same.0.1 in
+        let is = same_key l was.0 m (sound.seen.boards same.0.0 was.0 was.1) board was.2 in
+        subst (λ (z : Found). HasScene (moments_of z) (scene_of m)) (sym same.1) (same.0.0, was.0, was.1, ap scene_of is)
+    | inr pushed ↦
+        (length (moments_of old), m, subst (λ (ms : List Moment). slice_get ms (length (moments_of old)) ≡ Some m) (sym pushed.1.moments) (there_last (moments_of old) m (length (moments_of old)) refl), refl)
+  ]
 
   pub tries_one : IsKeyed new → Adds old new m p → Tries l xs old new a (λ f. f ≡ e) true
   tries_one keyed adds = record {
     grows = added_grows keyed adds;
     covers = λ f s same g.
-      let here = subst (λ (z : Event). Goes l xs (scene_of a) z s) same g in
-      let is = goes_one l xs (scene_of a) e (scene_of m) s goes here in
-      subst (λ (z : Scene). HasScene (moments_of new) z) is (added_has adds);
+        let here = subst (λ (z : Event). Goes l xs (scene_of a) z s) same g in
+        let is = goes_one l xs (scene_of a) e (scene_of m) s goes here in
+        subst (λ (z : Scene). HasScene (moments_of new) z) is (added_has adds);
     goes = (e, scene_of m, goes);
   }
 
@@ -120,12 +120,12 @@ module _ (l : Layout) (xs : List Line) (old new : Found) (p : ℕ) (a m : Moment
         scenes = map scene_of ms;
         count = length-map ms scene_of ∙ (length-append (moments_of old) (m ∷ []) ∙ ap (λ n. n + 1) full.count);
         reached = λ k s there.
-          let n = there_mapped scene_of ms k s there in
-          subst (λ (z : Scene). (h : List Event) × IsPlayTo l xs h z) n.2 (reached l xs ms (old.parents.items ++ p ∷ []) seen k n.0 n.1);
+            let n = there_mapped scene_of ms k s there in
+            subst (λ (z : Scene). (h : List Event) × IsPlayTo l xs h z) n.2 (reached l xs ms (old.parents.items ++ p ∷ []) seen k n.0 n.1);
         distinct = λ i k s u ati atk low.
-          let n = there_mapped scene_of ms i s ati in
-          let o = there_mapped scene_of ms k u atk in
-          λ same. seen.distinct i k n.0 o.0 n.1 o.1 low (n.2 ∙ (same ∙ sym o.2));
+            let n = there_mapped scene_of ms i s ati in
+            let o = there_mapped scene_of ms k u atk in
+            λ same. seen.distinct i k n.0 o.0 n.1 o.1 low (n.2 ∙ (same ∙ sym o.2));
       }
 
 -- an event that may not come
@@ -269,6 +269,7 @@ signals_past l xs m f g t c left n r low outside tries =
   where
     false_true : false ≡ true → ⊥
     false_true e = cc
+
     lacks : (x : ThreadSet) (b : Bool) → in_set x n ≡ b → ((u : ℕ) → in_set x u ≡ true → (u < l.threads) × ((spec_of m).members c.0 u ≡ true)) → in_set x n ≡ false
     lacks x true h within = absurd (false_true (sym outside ∙ (within n h).1))
     lacks x false h within = h

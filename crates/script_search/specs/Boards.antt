@@ -1,5 +1,5 @@
 -- A scene as plain lists, and what they show.
-use Rattle.std.specs.Prelude.{◌≡◌, ℕ, Bool, true, false, cond, eqb, List, length, Some, None, Result, MatchResult, MatchBool}
+use Rattle.std.specs.Prelude.{◌≡◌, ℕ, Bool, true, false, cond, eqb, List, length, Some, None, MatchBool}
 use Rattle.std.specs.declared.option.Option.{Option}
 use mathlib.Core.Option.{none, some, Option as Optional}
 use Rattle.larch_actions.specs.declared.event.Event.{Event}

@@ -1,5 +1,5 @@
 -- The boards that a search has found.
-use Rattle.std.specs.Prelude.{◌≡◌, ◌≢◌, ◌⊎◌, ℕ, List, [], ◌∷◌, ◌++◌, length, map, Some, slice_get}
+use Rattle.std.specs.Prelude.{◌≡◌, ◌⊎◌, ℕ, List, [], ◌∷◌, ◌++◌, length, map, Some, slice_get}
 use Rattle.script_search.specs.declared.found.Found.{Found}
 use Rattle.script_search.specs.Boards.{Moment, moment_of}
 use Rattle.script_search.specs.Keys.{key_of}

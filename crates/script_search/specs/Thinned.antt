@@ -1,5 +1,5 @@
 -- Threads that a signal takes out of a condition.
-use Rattle.std.specs.Prelude.{◌≡◌, ◌&&◌, ◌||◌, not, ℕ, ◌<◌, Bool, true, false, cond, eqb, List, length, slice_index_or}
+use Rattle.std.specs.Prelude.{◌≡◌, not, ℕ, ◌<◌, Bool, true, false, cond, eqb, List, length, slice_index_or}
 use Rattle.larch_actions.specs.State.{shown_at}
 use Rattle.script_search.specs.declared.board.Place.{Place}
 use Rattle.script_search.specs.declared.board.Place.TheVariants as place

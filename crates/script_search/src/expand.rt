@@ -1,9 +1,10 @@
 //! All that may come next at one scene.
-ghost use Rattle.std.specs.Prelude.{◌≡◌, ◌<◌, ◌≤◌, ◌||◌, ℕ, true, IfOk, IfErr, Some};
-ghost use Rattle.script_text.specs.Runs.{event};
+ghost use Rattle.std.specs.Prelude.{◌≡◌, ◌<◌, ◌≤◌, ◌||◌, ℕ, true, IfOk, IfErr, Some, None, slice_get, ⊤};
+ghost use Rattle.script_text.specs.Text.{IsScript};
+ghost use Rattle.script_text.specs.Runs.{event, lines_of};
 ghost use Rattle.script_plays.specs.declared.choice.Choice.{Choice};
 ghost use Rattle.script_search.specs.declared.found.Stop.TheVariants as Stop;
-ghost use Rattle.script_search.specs.Boards.{moment_of, IsBoard};
+ghost use Rattle.script_search.specs.Boards.{moment_of, played_of, IsBoard};
 ghost use Rattle.script_search.specs.Tries.{IsSound, IsAt, Tries, Exceeds, MayTry, MayTryAll, IsTried, AreTried, MaySignal, Leaves};
 ghost use Rattle.larch_actions.specs.Sets.{in_set};
 
@@ -11,11 +12,13 @@ use crate::board::Board;
 use crate::found::{Found, Stop};
 use crate::moving::moved;
 use crate::plan::Plan;
-use larch_actions::{Action, CondId, ThreadId, ThreadSet};
-use script_plays::{Choice, Choices, Turn};
+use larch_actions::{Action, CondId, ThreadId, ThreadSet, Version};
+use script_plays::{Choice, Choices, Turn, choices};
+use script_text::Operation;
 use std::alloc::Global;
 
 /// A thread at a scene, which stands at this place among those found.
+#[derive(Clone, Copy)]
 pub struct Node<'a> {
     pub board: &'a Board,
     pub place: u32,
@@ -176,4 +179,96 @@ fn signals(
         Err(stop) => return Err(stop),
     };
     Ok(either(without, with))
+}
+
+// All that a thread may do behind its last line.
+fn at_end(alloc: Global, plan: &Plan, found: &mut Found, node: &Node) -> Result<bool, Stop>
+    requires sound { IsSound plan.now.layout plan.now.lines found.old }
+    requires there { IsAt found.old node.now.place (moment_of node.now.board.now) }
+    requires board { IsBoard plan.now.layout (moment_of node.now.board.now) }
+    requires thread { node.now.thread < plan.now.layout.threads }
+    requires past { slice_get (lines_of node.now.thread plan.now.lines) (played_of (moment_of node.now.board.now) node.now.thread) ≡ None }
+    ensures ok { IfOk result (Tries plan.now.layout plan.now.lines found.old found.new (moment_of node.now.board.now)
+        (λ e. e.thread.0 ≡ node.now.thread)) }
+    ensures full { IfErr result (λ stop. stop ≡ Stop.Limit → Exceeds plan.now.layout plan.now.lines found.old.limit) }
+{
+    match plan.layout().version {
+        Version::One => Ok(false),
+        Version::Two => {
+            let choice = Choice {
+                action: Action::End,
+                turn: Turn::Stays,
+            };
+            match attempt(alloc, plan, found, node, &choice) {
+                Ok(moves) => Ok(moves),
+                Err(stop) => Err(stop),
+            }
+        }
+    }
+}
+
+// All that one thread may do.
+fn expand(alloc: Global, plan: &Plan, found: &mut Found, node: &Node) -> Result<bool, Stop>
+    requires sound { IsSound plan.now.layout plan.now.lines found.old }
+    requires there { IsAt found.old node.now.place (moment_of node.now.board.now) }
+    requires board { IsBoard plan.now.layout (moment_of node.now.board.now) }
+    requires thread { node.now.thread < plan.now.layout.threads }
+    requires few { plan.now.layout.threads ≤ 256 }
+    requires script { IsScript plan.now.layout plan.now.lines }
+    ensures ok { IfOk result (Tries plan.now.layout plan.now.lines found.old found.new (moment_of node.now.board.now)
+        (λ e. e.thread.0 ≡ node.now.thread)) }
+    ensures full { IfErr result (λ stop. stop ≡ Stop.Limit → Exceeds plan.now.layout plan.now.lines found.old.limit) }
+{
+    let played = node.board.played(node.thread);
+    match plan.line(node.thread, played) {
+        None => at_end(alloc, plan, found, node),
+        Some(line) => match line.operation {
+            Operation::Signal { cond } => {
+                let part = Part {
+                    cond,
+                    before: 0,
+                    left: ThreadSet::empty(),
+                };
+                match signals(alloc, plan, found, node, &part) {
+                    Ok(moves) => Ok(moves),
+                    Err(stop) => Err(stop),
+                }
+            }
+            _ => match each_choice(alloc, plan, found, node, &choices(&line.operation)) {
+                Ok(moves) => Ok(moves),
+                Err(stop) => Err(stop),
+            },
+        },
+    }
+}
+
+/// All that may come next at the scene at this place, and whether there is anything.
+pub fn expand_all(
+    alloc: Global,
+    plan: &Plan,
+    found: &mut Found,
+    board: &Board,
+    place: u32,
+) -> Result<bool, Stop>
+    requires sound { IsSound plan.now.layout plan.now.lines found.old }
+    requires there { IsAt found.old place (moment_of board.now) }
+    requires board { IsBoard plan.now.layout (moment_of board.now) }
+    requires few { plan.now.layout.threads ≤ 256 }
+    requires script { IsScript plan.now.layout plan.now.lines }
+    ensures ok { IfOk result (Tries plan.now.layout plan.now.lines found.old found.new (moment_of board.now) (λ e. ⊤)) }
+    ensures full { IfErr result (λ stop. stop ≡ Stop.Limit → Exceeds plan.now.layout plan.now.lines found.old.limit) }
+{
+    let mut moves = false;
+    for thread in 0..plan.layout().threads {
+        let node = Node {
+            board,
+            place,
+            thread,
+        };
+        match expand(alloc, plan, found, &node) {
+            Ok(more) => moves = either(moves, more),
+            Err(stop) => return Err(stop),
+        }
+    }
+    Ok(moves)
 }

@@ -13,20 +13,8 @@ fn tag(place: Place) -> u32
         Place::Unborn => 0,
         Place::Running => 1,
         Place::Ended => 2,
-        Place::Waiting { inside, .. } => {
-            if inside {
-                3
-            } else {
-                4
-            }
-        }
-        Place::AlertWaiting { inside, .. } => {
-            if inside {
-                5
-            } else {
-                6
-            }
-        }
+        Place::Waiting { inside, .. } => { if inside { 3 } else { 4 } }
+        Place::AlertWaiting { inside, .. } => { if inside { 5 } else { 6 } }
     }
 }
 

@@ -50,13 +50,7 @@ fn added(line: &Line, mutex: u32) -> u64
     ensures { result ≡ added_by line.now.operation mutex }
 {
     match line.operation {
-        Operation::Add { mutex: own, number } => {
-            if own.0 == mutex {
-                number
-            } else {
-                0
-            }
-        }
+        Operation::Add { mutex: own, number } => { if own.0 == mutex { number } else { 0 } }
         _ => 0,
     }
 }

@@ -73,8 +73,16 @@ pub(super) fn is_inside(place: Place, cond: u32) -> bool
     ensures { result ≡ is_inside cond place }
 {
     match place {
-        Place::Waiting { cond: own, inside, .. } => cond == own && inside,
-        Place::AlertWaiting { cond: own, inside, .. } => cond == own && inside,
+        Place::Waiting {
+            cond: own,
+            inside,
+            ..
+        } => cond == own && inside,
+        Place::AlertWaiting {
+            cond: own,
+            inside,
+            ..
+        } => cond == own && inside,
         _ => false,
     }
 }

@@ -24,5 +24,5 @@ returns-clause-ok t c =
     let m = moment_of c.args.node.now.board.now in
     let part = c.args.part.now in
     let fork = signals_fork c.args.plan.now.layout c.args.plan.now.lines (moment_of c.args.node.now.board.now) c.args.found.now c.signals.new.found c.signals-2.new.found c.args.node.now.thread part.cond part.left c.insert.new.self part.before
-        c.in-Ok-signals.without c.in-Ok-signals-2.with c.requires.left c.insert.ensures.members c.in-Ok-signals.ensures.ok c.in-Ok-signals-2.ensures.ok in
+    c.in-Ok-signals.without c.in-Ok-signals-2.with c.requires.left c.insert.ensures.members c.in-Ok-signals.ensures.ok c.in-Ok-signals-2.ensures.ok in
     subst (λ (r : Bool). Tries l c.args.plan.now.lines c.args.found.now c.signals-2.new.found m (Leaves m l.threads c.args.node.now.thread part.cond part.left part.before) r) (sym c.either.ensures) fork

@@ -1,6 +1,4 @@
-use Rattle.std.proofs.Common.{◌≡◌, ◌<◌, ◌∙◌, ℕ, length, ap, subst, sym, arith}
-use Rattle.larch_actions.specs.declared.event.Layout.{Layout}
-use Rattle.script_text.specs.Runs.{lines_of}
+use Rattle.std.proofs.Common.{ℕ, length, ap, subst, sym, arith}
 use Rattle.script_search.specs.Boards.{Moment, IsBoard, moment_of, played_of}
 use Rattle.script_search.proofs.Rows.{sizes_both}
 use Rattle.script_search.proofs.Planning.{lines_few}
@@ -31,9 +29,8 @@ returns c =
     let faced = moment_of c.turn.new.board in
     let last = moment_of c.settle.new.board in
     let board = subst (λ (z : Moment). IsBoard l z) (sym c.in_ok-next.ensures) c.requires.board in
-    let sizes = sizes_both m after last (size_after l xs old m c.args.t c.args.choice.now c.in_ok-next.ensures after c.act.result c.act.ensures c.if-not-act.false) (sizes_both after faced last c.turn.ensures.sizes c.settle.ensures.sizes) in
-    (
+    let sizes = sizes_both m after last (size_after l xs old m c.args.t c.args.choice.now c.in_ok-next.ensures after c.act.result c.act.ensures c.if-not-act.false) (sizes_both after faced last c.turn.ensures.sizes c.settle.ensures.sizes) in (
       goes_there l xs old m c.args.t c.args.choice.now c.in_ok-next.ensures after faced last c.act.result c.requires.named.0 c.requires.gives c.act.ensures c.if-not-act.false
-      c.turn.ensures.spec c.turn.ensures.played c.settle.ensures.spec c.settle.ensures.played,
+          c.turn.ensures.spec c.turn.ensures.played c.settle.ensures.spec c.settle.ensures.played,
       sized l m last board sizes,
     )

@@ -16,9 +16,10 @@ returns c =
     let live : s.life t ≡ Live = search rules in
     let idle : s.pending t ≡ Nothing = search rules in
     let what = AlertWaiting (record { 0 = c.args.mutex }) (record { 0 = c.args.cond }) in
-    let change = entered s t c.args.mutex c.args.cond what live (outside_idle m t low idle) in
-    (
-      (record { live = search rules; order = search rules; requires_met = search rules; when_met = search rules; choice_met = search rules },
-        c.set_holder.ensures.spec ∙ (ap (λ (z : Spec). record z { holder = put z.holder c.args.mutex none }) c.set_place.ensures.spec ∙ change)),
+    let change = entered s t c.args.mutex c.args.cond what live (outside_idle m t low idle) in (
+      (
+        record { live = search rules; order = search rules; requires_met = search rules; when_met = search rules; choice_met = search rules },
+        c.set_holder.ensures.spec ∙ (ap (λ (z : Spec). record z { holder = put z.holder c.args.mutex none }) c.set_place.ensures.spec ∙ change),
+      ),
       keeps_both m (moment_of c.set_place.new.self) (moment_of c.set_holder.new.self) c.set_place.ensures.keeps c.set_holder.ensures.keeps,
     )

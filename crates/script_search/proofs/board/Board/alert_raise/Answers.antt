@@ -18,11 +18,12 @@ returns c =
     let change = raised s t c.args.mutex c.args.cond live (outside_others m t low (record { 0 = c.args.mutex }) (record { 0 = c.args.cond }) (inr waits)) in
     let placed = moment_of c.set_place.new.self in
     let calm = moment_of c.set_alerted.new.self in
-    let last = moment_of c.set_holder.new.self in
-    (
-      (record { live = search rules; order = search rules; requires_met = search rules; when_met = search rules; choice_met = search rules },
+    let last = moment_of c.set_holder.new.self in (
+      (
+        record { live = search rules; order = search rules; requires_met = search rules; when_met = search rules; choice_met = search rules },
         c.set_holder.ensures.spec
-        ∙ (ap (λ (z : Spec). record z { holder = put z.holder c.args.mutex (some t) }) (c.set_alerted.ensures.spec ∙ ap (λ (z : Spec). record z { alerts = put z.alerts t false }) c.set_place.ensures.spec)
-        ∙ change)),
+            ∙ (ap (λ (z : Spec). record z { holder = put z.holder c.args.mutex (some t) }) (c.set_alerted.ensures.spec ∙ ap (λ (z : Spec). record z { alerts = put z.alerts t false }) c.set_place.ensures.spec)
+            ∙ change),
+      ),
       keeps_both m placed last c.set_place.ensures.keeps (keeps_both placed calm last c.set_alerted.ensures.keeps c.set_holder.ensures.keeps),
     )

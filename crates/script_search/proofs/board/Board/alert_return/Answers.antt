@@ -16,9 +16,10 @@ returns c =
     let live : s.life t ≡ Live = search rules in
     let waits : s.pending t ≡ AlertWaiting (record { 0 = c.args.mutex }) (record { 0 = c.args.cond }) = search rules in
     let out : s.members c.args.cond t ≡ false = search rules in
-    let change = resumed s t c.args.mutex live (outside_all m t low (record { 0 = c.args.mutex }) (record { 0 = c.args.cond }) (inr waits) out) in
-    (
-      (record { live = search rules; order = search rules; requires_met = search rules; when_met = search rules; choice_met = search rules },
-        c.set_holder.ensures.spec ∙ (ap (λ (z : Spec). record z { holder = put z.holder c.args.mutex (some t) }) c.set_place.ensures.spec ∙ change)),
+    let change = resumed s t c.args.mutex live (outside_all m t low (record { 0 = c.args.mutex }) (record { 0 = c.args.cond }) (inr waits) out) in (
+      (
+        record { live = search rules; order = search rules; requires_met = search rules; when_met = search rules; choice_met = search rules },
+        c.set_holder.ensures.spec ∙ (ap (λ (z : Spec). record z { holder = put z.holder c.args.mutex (some t) }) c.set_place.ensures.spec ∙ change),
+      ),
       keeps_both m (moment_of c.set_place.new.self) (moment_of c.set_holder.new.self) c.set_place.ensures.keeps c.set_holder.ensures.keeps,
     )

@@ -11,8 +11,7 @@ returns c =
     let s = spec_of m in
     let t = c.args.t in
     let low : t < length m.threads = omega (arith, c.args.self.now.threads.ok.0) in
-    let idle : s.pending t ≡ Nothing = search rules in
-    (
+    let idle : s.pending t ≡ Nothing = search rules in (
       (record { live = search rules; order = search rules; requires_met = search rules; when_met = search rules; choice_met = search rules }, c.set_place.ensures.spec ∙ lived s t Ended idle (outside_idle m t low idle)),
       c.set_place.ensures.keeps,
     )

@@ -11,8 +11,7 @@ returns c =
     let who = c.args.who in
     let low : who < length m.threads = omega (arith, c.args.self.now.threads.ok.0) in
     let unborn : s.life who ≡ Unborn = search rules in
-    let idle = idle_unborn m who low unborn in
-    (
+    let idle = idle_unborn m who low unborn in (
       (record { live = search rules; order = search rules; requires_met = search rules; when_met = search rules; choice_met = search rules }, c.set_place.ensures.spec ∙ lived s who Live idle (outside_idle m who low idle)),
       c.set_place.ensures.keeps,
     )

@@ -1,5 +1,5 @@
 use Rattle.std.proofs.Common.{◌<◌, length, arith}
-use Rattle.script_search.specs.Boards.{moment_of, spec_of}
+use Rattle.script_search.specs.Boards.{moment_of}
 use Rattle.script_search.proofs.Shown.{available_is}
 use Rattle.script_search.proofs.board.Board.is_available.Goals as goal
 

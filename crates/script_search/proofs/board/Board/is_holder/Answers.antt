@@ -2,7 +2,7 @@ use Rattle.std.proofs.Common.{◌<◌, length, arith}
 use Rattle.script_search.specs.Boards.{moment_of, spec_of}
 use Rattle.script_search.proofs.Shown.{iff_at, holder_is}
 use Rattle.script_search.specs.Boards.{holder_of}
-use mathlib.Core.Option.{none, some}
+use mathlib.Core.Option.{some}
 use Rattle.script_search.proofs.board.Board.is_holder.Goals as goal
 
 pub returns : goal.returns

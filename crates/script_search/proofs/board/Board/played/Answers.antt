@@ -1,5 +1,5 @@
 use Rattle.std.proofs.Common.{◌<◌, length, arith, sym}
-use Rattle.script_search.specs.Boards.{moment_of, spec_of}
+use Rattle.script_search.specs.Boards.{moment_of}
 use Rattle.script_search.proofs.Shown.{played_is}
 use Rattle.script_search.proofs.board.Board.played.Goals as goal
 

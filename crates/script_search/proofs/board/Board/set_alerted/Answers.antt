@@ -1,6 +1,6 @@
-use Rattle.std.proofs.Common.{◌≡◌, ◌<◌, length, length-set, get_or, arith, ap, sym, refl, ◌∙◌}
+use Rattle.std.proofs.Common.{◌<◌, length, length-set, arith, ap, refl}
 use Rattle.script_search.specs.declared.board.Thread.{Thread}
-use Rattle.script_search.specs.Boards.{moment_of, spec_of}
+use Rattle.script_search.specs.Boards.{moment_of}
 use Rattle.script_search.proofs.Shown.{alert-set, played-same}
 use Rattle.script_search.proofs.board.Board.set_alerted.Goals as goal
 

@@ -1,4 +1,4 @@
-use Rattle.std.proofs.Common.{◌<◌, length, arith}
+use Rattle.std.proofs.Common.{arith}
 use Rattle.script_search.specs.Boards.{moment_of}
 use Rattle.script_search.proofs.Shown.{available-set}
 use Rattle.script_search.proofs.board.Board.set_available.Goals as goal

@@ -1,4 +1,4 @@
-use Rattle.std.proofs.Common.{None, rules, refl, arith}
+use Rattle.std.proofs.Common.{None, refl, arith}
 use Rattle.larch_actions.proofs.Answered.{not_both}
 use Rattle.script_search.proofs.Shown.{held_here, held_by_none, none_further}
 use Rattle.script_search.proofs.board.parts.is_nowhere.Goals as goal

@@ -13,11 +13,11 @@ returns-then-not-is_inside c =
 
 pub loop-t-preserved : goal.loop-t-preserved
 loop-t-preserved c = below_more _ _ c.loop-t.invariant (elim c.else-has.branch [
-    | else-has-via-then-has+else-not-is_inside w ↦
-        λ _. member_here c.args.threads.now c.args.cond c.loop-t.t true c.loop-t-test.true (sym w.is_inside.ensures ∙ w.if-not-is_inside.false)
-    | else-has-via-else-has w ↦
-        λ has. absurd (not_both (in_set c.args.left.now c.loop-t.t) (sym c.has.ensures ∙ w.if-has.false) has)
-  ])
+  | else-has-via-then-has+else-not-is_inside w ↦
+      λ _. member_here c.args.threads.now c.args.cond c.loop-t.t true c.loop-t-test.true (sym w.is_inside.ensures ∙ w.if-not-is_inside.false)
+  | else-has-via-else-has w ↦
+      λ has. absurd (not_both (in_set c.args.left.now c.loop-t.t) (sym c.has.ensures ∙ w.if-has.false) has)
+])
 
 pub returns : goal.returns
 returns c = ((λ _. λ t has. c.loop-t.invariant t (omega (arith, c.requires.within t has)) has), (λ _. refl))

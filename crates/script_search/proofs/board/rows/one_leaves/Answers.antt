@@ -14,12 +14,12 @@ returns-then-not-has c = (
 
 pub loop-t-preserved : goal.loop-t-preserved
 loop-t-preserved c = below_more _ _ c.loop-t.invariant (elim c.else-is_inside.branch [
-    | else-is_inside-via-then-is_inside+else-not-has w ↦
-        λ inside gone. not_both (in_set c.args.left.now c.loop-t.t) gone (sym w.has.ensures ∙ w.if-not-has.false)
-    | else-is_inside-via-else-is_inside w ↦
-        λ inside gone. not_both (members_in c.args.threads.now c.args.cond c.loop-t.t)
-            (member_here c.args.threads.now c.args.cond c.loop-t.t false c.loop-t-test.true (sym c.is_inside.ensures ∙ w.if-is_inside.false)) inside
-  ])
+  | else-is_inside-via-then-is_inside+else-not-has w ↦
+      λ inside gone. not_both (in_set c.args.left.now c.loop-t.t) gone (sym w.has.ensures ∙ w.if-not-has.false)
+  | else-is_inside-via-else-is_inside w ↦
+      λ inside gone. not_both (members_in c.args.threads.now c.args.cond c.loop-t.t)
+      (member_here c.args.threads.now c.args.cond c.loop-t.t false c.loop-t-test.true (sym c.is_inside.ensures ∙ w.if-is_inside.false)) inside
+])
 
 pub returns : goal.returns
 returns c = (

@@ -1,16 +1,19 @@
-use Rattle.std.proofs.Common.{◌≡◌, ◌∙◌, inl, inr, map, length, ap, sym, refl, arith}
+use Rattle.std.proofs.Common.{◌∙◌, inl, inr, map, sym, refl}
 use Rattle.std.proofs.lemmas.List.{length-map}
 use Rattle.script_search.specs.Boards.{moment_of}
 use Rattle.script_search.specs.Keys.{key_of}
-use Rattle.script_search.specs.Founds.{moments_of, keys_of, IsThere}
+use Rattle.script_search.specs.Founds.{moments_of, keys_of}
 use Rattle.script_search.proofs.Keyed.{found_there, absent_there, there_same}
 use Rattle.script_search.proofs.found.Found.add.Goals as goal
 
 pub returns-then-contains-clause-ok : goal.returns-then-contains-clause-ok
 returns-then-contains-clause-ok c =
     let f = c.args.self.now in
-    inl (there_same (keys_of f) (map key_of (moments_of f)) c.in_ok-key.key.items (key_of (moment_of c.args.board)) c.requires.keys c.in_ok-key.ensures
-        (found_there c.in_ok-key.key.items f.keys.keys (sym c.contains.ensures ∙ c.if-contains.true)), refl)
+    inl (
+      there_same (keys_of f) (map key_of (moments_of f)) c.in_ok-key.key.items (key_of (moment_of c.args.board)) c.requires.keys c.in_ok-key.ensures
+          (found_there c.in_ok-key.key.items f.keys.keys (sym c.contains.ensures ∙ c.if-contains.true)),
+      refl,
+    )
 
 pub returns-then-len-self-clause-full : goal.returns-then-len-self-clause-full
 returns-then-len-self-clause-full c = λ _.

@@ -1,5 +1,4 @@
 use Rattle.std.proofs.Common.{◌∙◌, ap, length, rules, arith}
-use Rattle.script_text.specs.Runs.{lines_of}
 use Rattle.script_search.proofs.Planning.{lines_few}
 use Rattle.script_search.proofs.plan.Plan.count.Goals as goal
 

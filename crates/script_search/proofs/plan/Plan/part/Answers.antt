@@ -1,4 +1,4 @@
-use Rattle.std.proofs.Common.{◌≡◌, ◌<◌, ◌≤◌, ◌^◌, ◌∙◌, List, ℕ, take, ap, sym, subst, rules, arith}
+use Rattle.std.proofs.Common.{◌≡◌, ◌∙◌, List, take, ap, rules, arith}
 use Rattle.script_text.specs.declared.line.Line.{Line}
 use Rattle.script_text.specs.Runs.{lines_of, total}
 use Rattle.script_search.proofs.Planning.{script_small, script_part_small}

@@ -1,4 +1,4 @@
-use Rattle.std.proofs.Common.{◌≡◌, ◌∙◌, ◌+◌, ℕ, suc, Some, None, ap, sym, rules, arith}
+use Rattle.std.proofs.Common.{◌≡◌, ◌∙◌, ◌+◌, ℕ, suc, None, ap, sym, rules, arith}
 use Rattle.std.specs.List.{slice_get}
 use Rattle.larch_actions.specs.Actions.{put}
 use Rattle.script_text.specs.Runs.{lines_of}
@@ -34,8 +34,7 @@ loop-line-preserved c =
     let now = played_of (moment_of c.loop-line.board) in
     let there = sym (ap (slice_get (lines_of c.args.t xs)) c.played.ensures) ∙ (sym c.line.ensures.value ∙ c.in-Some.is) in
     let one : c.played-played.result + 1 ≡ suc (now c.args.t) = omega (arith, c.played-played.ensures) in
-    let next = c.set_played.ensures.played ∙ ap (put now c.args.t) one in
-    (
+    let next = c.set_played.ensures.played ∙ ap (put now c.args.t) one in (
       sizes_both (moment_of c.args.board.now) (moment_of c.loop-line.board) (moment_of c.set_played.new.self) c.loop-line.invariant.0 c.set_played.ensures.sizes,
       c.set_played.ensures.spec ∙ c.loop-line.invariant.1,
       ap (settled n xs c.args.t) next ∙ (settled_step n xs c.args.t now c.in-Some.line there (sym c.is_silent.ensures ∙ c.if-not-is_silent.false) ∙ c.loop-line.invariant.2),
