@@ -1,22 +1,19 @@
 -- Plays are legal, and lead to one scene.
-use Rattle.std.proofs.Common.{◌≡◌, ◌⊎◌, ⊎_elim, inl, inr, ℕ, List, [], ◌∷◌, ◌++◌, refl, ap, sym, subst, ◌∙◌, arith}
+use Rattle.std.proofs.Common.{◌≡◌, inl, inr, List, [], ◌∷◌, ◌++◌, refl, ap, sym, subst, ◌∙◌, arith}
 use Rattle.larch_actions.specs.declared.event.Event.{Event}
 use Rattle.larch_actions.specs.declared.event.Layout.{Layout}
 use Rattle.larch_actions.specs.declared.event.Action.{Action}
-use Rattle.larch_actions.specs.declared.event.Action.TheVariants as action
 use Rattle.larch_actions.specs.declared.event.Version.{Version}
 use Rattle.larch_actions.specs.declared.event.Version.TheVariants.{One, Two}
-use Rattle.larch_actions.specs.declared.thread_set.ThreadSet.{ThreadSet}
-use Rattle.larch_actions.specs.Actions.{Spec, Acts, Leads, acted}
+use Rattle.larch_actions.specs.Actions.{Leads}
 use Rattle.script_text.specs.declared.line.Line.{Line}
 use Rattle.script_text.specs.declared.line.Operation.{Operation}
 use Rattle.script_text.specs.declared.line.Operation.TheVariants.{Acquire, Release, Wait, AlertWait, Signal, Broadcast, P, V, Alert, TestAlert, AlertP, Add, Until, AlertUntil, Fork, Join}
 use Rattle.script_plays.specs.declared.choice.Turn.{Turn}
-use Rattle.script_plays.specs.declared.choice.Turn.TheVariants.{Stays, Next}
 use Rattle.script_plays.specs.declared.choice.Choice.{Choice}
-use Rattle.script_plays.specs.Choices.{choices, IsOneOf, MayMake, Gives, next, stays}
+use Rattle.script_plays.specs.Choices.{MayMake, Gives}
 use Rattle.script_plays.specs.Scenes.{Scene, first_scene, rest_of, settled, turned}
-use Rattle.script_plays.specs.Plays.{Goes, Plays, IsStuck, Ends, IsPlayTo}
+use Rattle.script_plays.specs.Plays.{Goes, Plays}
 use Rattle.script_plays.specs.Laws.{PlaysAreLegal, PlaysHaveOneScene, EndsExcludesStuck}
 
 -- the events of a play lead as far in the state
@@ -81,3 +78,6 @@ plays_more l xs s (x ∷ h) u e w p g = (p.0, p.1, plays_more l xs p.0 h u e w p
 pub plays_last : (l : Layout) (xs : List Line) (s : Scene) (h : List Event) (e : Event) (w : Scene) → Plays l xs s (h ++ e ∷ []) w → (u : Scene) × Plays l xs s h u × Goes l xs u e w
 plays_last l xs s [] e w p = (s, refl, subst (λ (z : Scene). Goes l xs s e z) p.2 p.1)
 plays_last l xs s (x ∷ h) e w p = let r = plays_last l xs p.0 h e w p.2 in (r.0, (p.0, p.1, r.1), r.2)
+
+pub ends_excludes_stuck : EndsExcludesStuck
+ends_excludes_stuck l xs h ends stuck = elim (ends h stuck.play) [ inl whole ↦ stuck.unfinished whole | inr more ↦ stuck.no_more more ]

@@ -1,5 +1,5 @@
 //! Laws of plays.
-ghost use Rattle.script_plays.specs.Laws.{PlaysAreLegal, PlaysHaveOneScene};
+ghost use Rattle.script_plays.specs.Laws.{PlaysAreLegal, PlaysHaveOneScene, EndsExcludesStuck};
 
 /// A play is a legal list of events.
 pub fn plays_are_legal()
@@ -9,4 +9,9 @@ pub fn plays_are_legal()
 /// A play leads to one scene.
 pub fn plays_have_one_scene()
     ensures { PlaysHaveOneScene }
+{}
+
+/// Where each play is whole or can go on, none is stuck.
+pub fn ends_excludes_stuck()
+    ensures { EndsExcludesStuck }
 {}
