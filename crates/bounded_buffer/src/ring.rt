@@ -103,6 +103,7 @@ impl<T> Ring<T> {
     /// Whether it is open, and the number of items that were ever put is the greatest that there is.
     pub(crate) fn is_at_end(&self) -> bool
         ensures end { result ≡ false → self.now.shut ≡ false → put_count self.now + 1 < 2 ^ 64 }
+        ensures full { result ≡ true → (self.now.shut ≡ false) × (put_count self.now + 1 ≡ 2 ^ 64) }
     {
         !self.shut && self.taken == u64::MAX - self.items.len() as u64
     }

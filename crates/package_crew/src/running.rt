@@ -22,7 +22,7 @@ use std::thread::Threads;
 ///
 /// ghost asks = { λ job layout w. (1 ≤ layout.mutexes) × (2 ≤ layout.conditions) };
 ///
-/// ghost did = { λ job w n log s. IsPart job.count n log s };
+/// ghost did = { λ job w n es log s. IsPart job.count n log s };
 /// ```
 pub trait Work<U: Uses>: Sync {
     /// What a thread leaves beside its share.
@@ -31,8 +31,8 @@ pub trait Work<U: Uses>: Sync {
     // What it asks of the layout and the world.
     ghost asks: { Self → Layout → U.World → Type 0 };
 
-    // Of the world, the thread's number, what it left, and its last share.
-    ghost did: { Self → U.World → ℕ → Self.Left → U.Share → Type 0 };
+    // Of the world, the thread's number, its own events, what it left, and its last share.
+    ghost did: { Self → U.World → ℕ → List Event → Self.Left → U.Share → Type 0 };
 
     /// Does the work of this thread, which has its first share and holds no mutex, neither now nor when it is done.
     fn work<R: Wait>(&self, rt: &R, alloc: Global, p: &Package<U>, me: &mut Thread<U>) -> Self::Left

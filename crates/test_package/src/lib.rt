@@ -22,4 +22,6 @@ mod racing;
 #[cfg(test)]
 mod semaphore;
 #[cfg(test)]
+mod untils;
+#[cfg(test)]
 mod work;
