@@ -12,7 +12,7 @@ use Rattle.trace_core.specs.declared.line.Line.TheVariants as line
 use Rattle.trace_core.specs.declared.reader_state.Progress.{Progress}
 use Rattle.trace_core.specs.declared.reader_state.Phase.TheVariants as phase
 use Rattle.trace_core.specs.Usual.{IsEventAt}
-use Rattle.trace_core.specs.Intake.{rest_of}
+use Rattle.exact_text.specs.Intake.{rest_of}
 use Rattle.trace_core.specs.Lines.{line_at}
 use Rattle.trace_core.specs.Standing.{standing_of}
 use Rattle.trace_core.specs.Steps.{IsTaken, TakesEvent}

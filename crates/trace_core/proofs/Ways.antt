@@ -6,8 +6,8 @@ use Rattle.larch_actions.specs.declared.event.Version.{Version}
 use Rattle.larch_actions.specs.declared.event.Layout.{Layout}
 use Rattle.larch_actions.specs.Layout.{most_in}
 use Rattle.trace_core.specs.declared.line.Line.TheVariants as line
-use Rattle.trace_core.specs.declared.line.Stop.{Stop}
-use Rattle.trace_core.specs.Reading.{Reader, ◌>>=◌, word_at, after_word, both, as_value, number_at}
+use Rattle.exact_text.specs.declared.stop.Stop.{Stop}
+use Rattle.exact_text.specs.Reading.{Reader, ◌>>=◌, word_at, after_word, both, as_value, number_at}
 use Rattle.trace_core.specs.Lines.{named_at, layout_from, counts_at}
 
 value_ok : {X Z : Type 0} (f : X → Z) (read : Reader X) (bytes : List ℕ) (x : X × List ℕ) → read bytes ≡ Ok x → as_value f read bytes ≡ Ok (f x.0, x.1)

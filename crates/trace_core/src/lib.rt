@@ -7,7 +7,6 @@
 
 mod action;
 mod digits;
-mod intake;
 pub mod laws;
 mod line;
 mod line_texts;
@@ -24,7 +23,7 @@ mod usual;
 mod whole_texts;
 
 pub use digits::few_digits;
-pub use intake::TextFault;
+pub use exact_text::TextFault;
 pub use line_texts::{add, add_event, add_number};
 pub use print::{print_end, print_event, print_head, print_value};
 pub use reader::EventReader;

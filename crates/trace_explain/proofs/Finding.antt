@@ -6,8 +6,8 @@ use Rattle.larch_actions.specs.declared.event.Event.{Event}
 use Rattle.larch_actions.specs.declared.event.Broken.{Broken}
 use Rattle.larch_actions.specs.Actions.{Acts, Fails, at_first}
 use Rattle.larch_actions.specs.State.{Moment, spec_of}
-use Rattle.trace_core.specs.declared.intake.TextFault.{TextFault}
-use Rattle.trace_core.specs.declared.intake.TextFault.TheVariants as fault
+use Rattle.exact_text.specs.declared.fault.TextFault.{TextFault}
+use Rattle.exact_text.specs.declared.fault.TextFault.TheVariants as fault
 use Rattle.trace_core.specs.Standing.{Standing}
 use Rattle.trace_core.specs.Steps.{TakesHead, TakesEvent}
 use Rattle.trace_check.specs.Verdicts.{refusal}
@@ -55,16 +55,19 @@ finding_fails budget (Some bytes) before now p p' m count k d l e why same t f =
 
 -- a text that can't be read has no event that fails
 pub verdict_found : (f : TextFault) → verdict_of (found_of f) ≡ refusal f
+verdict_found fault.Memory = refl
 verdict_found (fault.BadLine n) = refl
 verdict_found fault.TooLong = refl
 verdict_found fault.Read = refl
 
 pub no_failure : (budget : ℕ) (left : Option (List ℕ)) (k : Kept) (f : TextFault) → IsFailure budget left k (found_of f)
+no_failure budget left k fault.Memory = tt
 no_failure budget left k (fault.BadLine n) = tt
 no_failure budget left k fault.TooLong = tt
 no_failure budget left k fault.Read = tt
 
 pub none_noted : (f : TextFault) → HasNoted (found_of f)
+none_noted fault.Memory = tt
 none_noted (fault.BadLine n) = tt
 none_noted fault.TooLong = tt
 none_noted fault.Read = tt

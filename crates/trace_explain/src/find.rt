@@ -36,7 +36,7 @@ fn refused(fault: TextFault) -> Found
     match fault {
         TextFault::BadLine(line) => Found::BadLine(line),
         TextFault::TooLong => Found::TooLong,
-        TextFault::Read => Found::ReadFault,
+        TextFault::Read | TextFault::Memory => Found::ReadFault,
     }
 }
 

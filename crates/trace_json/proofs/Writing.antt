@@ -11,8 +11,8 @@ use Rattle.larch_actions.specs.State.{Moment, spec_of, held, waiting, alerted}
 use Rattle.text_output.specs.Sent.{Sends}
 use Rattle.text_output.proofs.Prefixes.{appends_then, prefix_behind, prefix_of_more, sends_then, fails_then}
 use Rattle.text_output.proofs.Pieces.{cause_then}
-use Rattle.trace_core.specs.declared.intake.TextFault.{TextFault}
-use Rattle.trace_core.specs.declared.intake.TextFault.TheVariants as fault
+use Rattle.exact_text.specs.declared.fault.TextFault.{TextFault}
+use Rattle.exact_text.specs.declared.fault.TextFault.TheVariants as fault
 use Rattle.trace_core.specs.Standing.{Standing}
 use Rattle.trace_core.specs.Steps.{TakesHead, TakesEvent, TakesEnd}
 use Rattle.trace_check.specs.declared.checker.Summary.{Summary}
@@ -133,6 +133,7 @@ answers_cut budget left₀ left' before now told₀ told sunk₀ sunk sunk' f cu
 -- the verdict on a text that can't be read, with what was written until then
 refused_written : (budget : ℕ) (left₀ told₀ told : Option (List ℕ)) (f : TextFault) → IfSome left₀ (λ bytes. GotPrefix budget bytes told₀ told) → IsWritten budget left₀ told₀ told (refusal f)
 refused_written budget None told₀ told f h = tt
+refused_written budget (Some bytes) told₀ told fault.Memory h = h
 refused_written budget (Some bytes) told₀ told (fault.BadLine k) h = h
 refused_written budget (Some bytes) told₀ told fault.TooLong h = h
 refused_written budget (Some bytes) told₀ told fault.Read h = h
