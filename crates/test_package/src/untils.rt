@@ -49,15 +49,7 @@ fn waits_until<R: Wait>(
 {
     let m = MutexId(0);
     let got = acquire(rt, pkg, me, m);
-    let (outcome, again) = alert_wait_until(
-        rt,
-        pkg,
-        me,
-        m,
-        CondId(0),
-        got,
-        &|_sum: &u64| accepts,
-    );
+    let (outcome, again) = alert_wait_until(rt, pkg, me, m, CondId(0), got, &|_sum: &u64| accepts);
     release::<SumUses, NoChange, R>(rt, pkg, me, m, again);
     outcome == Outcome::Returned
 }
