@@ -1,6 +1,7 @@
 use Rattle.std.proofs.Common.{lit<, [], ◌≡◌, ◌≤◌, Some, arith, refl, sym, subst, ◌∙◌}
 use Rattle.std.proofs.lemmas.Option.{same_Some}
-use Rattle.sum_uses.specs.Sums.{added}
+use Rattle.nub.proofs.Holding.{fits_any}
+use Rattle.sum_uses.specs.Sums.{IsAbove, added}
 use Rattle.test_package.proofs.untils.waits_until.Goals as goal
 
 pub acquire-got-requires-clause-rest : goal.acquire-got-requires-clause-rest
@@ -11,6 +12,12 @@ acquire-got-requires-clause-lacks g c κs within = c.requires.idle.lacks 0 (lit<
 
 pub alert_wait_until-outcome-requires-clause-share : goal.alert_wait_until-outcome-requires-clause-share
 alert_wait_until-outcome-requires-clause-share g c κs within = ([], c.acquire-got.ensures.share ∙ c.requires.idle.share)
+
+pub alert_wait_until-outcome-requires-clause-fits : goal.alert_wait_until-outcome-requires-clause-fits
+alert_wait_until-outcome-requires-clause-fits g c κs within = λ s own.
+    let n = c.args.me.now.number in
+    let has = c.acquire-got.ensures.holding n [] c.requires.idle in
+    fits_any (λ w m x t s. IsAbove m x s) c.args.pkg.now n 0 [] c.acquire-got.result c.acquire-got.result c.acquire-got.new.me has.0 has.1 s own
 
 pub alert_wait_until-outcome-requires-clause-stays : goal.alert_wait_until-outcome-requires-clause-stays
 alert_wait_until-outcome-requires-clause-stays g c κs within = λ x s own fit.
