@@ -3,6 +3,7 @@ use crate::alerted::{raise_alone, wait_for_wakes};
 use crate::alerting::{alert_often, alert_oneself, raise_often, test_twice, wait_often};
 use crate::notes::Notes;
 use crate::racing::{ALERTED, Act, act_often, await_start};
+use crate::untils::{returns_once, works_once};
 use alerts::alert;
 use nub::{Package, Thread};
 use std::sync::Wait;
@@ -27,6 +28,10 @@ pub enum AlertTask {
     AtRest,
     /// Thread 0 alerts itself and waits in a condition.
     Alone,
+    /// Thread 0 works on a number that is accepted at once, and after an alert of itself on none.
+    Works,
+    /// Thread 0 finds a number accepted at once, and after an alert of itself none.
+    Returns,
     /// This many times thread 0 waits in a condition while thread 1 signals once and thread 2
     /// alerts thread 0 once.
     Race(u32),
@@ -60,6 +65,8 @@ impl Part for AlertPart<'_> {
                 notes.third.store(1, Ordering::SeqCst);
             }
             (AlertTask::Alone, 0) => raise_alone(rt, pkg, &mut me, notes),
+            (AlertTask::Works, 0) => works_once(rt, pkg, &mut me, notes),
+            (AlertTask::Returns, 0) => returns_once(rt, pkg, &mut me, notes),
             (AlertTask::Race(times), 0) => wait_for_wakes(rt, pkg, &mut me, times, notes),
             (AlertTask::Race(times), 1) => act_often(rt, pkg, &mut me, Act::Signal, times, notes),
             (AlertTask::Race(times), 2) => act_often(rt, pkg, &mut me, Act::Alert, times, notes),

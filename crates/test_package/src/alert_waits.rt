@@ -28,6 +28,37 @@ fn alone(rt: HostRuntime) -> Result<(), Fail> {
     has_numbers(&notes.numbers()[..2], &[1, 0])
 }
 
+// A monitor begins no wait for a number that is accepted at once. A thread that was alerted waits for one that is never accepted, raises at
+// once, and gives the mutex back.
+fn untils<R: Threads + Wait + Sync>(rt: &R, alloc: Global, task: AlertTask) -> Result<(), Fail> {
+    let notes = Notes::new();
+    let part = AlertPart(task, &notes);
+    let (mutex, cond) = (MutexId(0), CondId(0));
+    let expected = [
+        event(0, Action::Acquire { mutex }),
+        event(0, Action::Release { mutex }),
+        event(0, Action::Alert { who: ThreadId(0) }),
+        event(0, Action::Acquire { mutex }),
+        event(0, Action::AlertEnqueue { mutex, cond }),
+        event(0, Action::AlertRaise { mutex, cond }),
+        event(0, Action::Release { mutex }),
+    ];
+    plays(rt, alloc, few_of_each(1), &part, &expected)?;
+    has_numbers(&notes.numbers()[..2], &[1, 1])
+}
+
+// A value is worked on once it is accepted, or never after an alert.
+#[test]
+fn locked_when(rt: HostRuntime) -> Result<(), Fail> {
+    untils(&rt, rt.alloc(), AlertTask::Works)
+}
+
+// A wait for a value returns once it is accepted, or ends by an alert.
+#[test]
+fn wait_until(rt: HostRuntime) -> Result<(), Fail> {
+    untils(&rt, rt.alloc(), AlertTask::Returns)
+}
+
 // A Signal and an alert race for a wait 100,000 times. Exactly one ends it: if the Signal did, the
 // alert is still there, and otherwise it is cleared.
 #[test]

@@ -23,4 +23,6 @@ mod racing;
 #[cfg(test)]
 mod semaphore;
 #[cfg(test)]
+mod untils;
+#[cfg(test)]
 mod work;
