@@ -192,13 +192,15 @@ static void *counted_body(void *of) {
     return of;
 }
 static void counted(void) {
-    long *done = mmap(NULL, 4096, PROT_READ | PROT_WRITE, MAP_SHARED | MAP_ANONYMOUS, -1, 0), all = 0;
+    volatile long *done = mmap(NULL, 4096, PROT_READ | PROT_WRITE, MAP_SHARED | MAP_ANONYMOUS, -1, 0);
+    long all = 0;
     pid_t child = fork();
     if (child == 0) {
         pthread_t t;
-        for (int i = 0; i < 4; i++) pthread_create(&t, NULL, counted_body, done + 8 * i);
+        for (int i = 0; i < 4; i++) pthread_create(&t, NULL, counted_body, (void *)(done + 8 * i));
         pause();
     }
+    while (done[0] == 0) nap(1000); /* it has begun, however busy the machine is */
     nap(20000);
     kill(child, SIGKILL);
     waitpid(child, NULL, 0);
