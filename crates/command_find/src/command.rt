@@ -65,7 +65,7 @@ fn answer<I: Source, O: Sink, N: Sink>(
 }
 
 /// Prints the paths that the words' query means in the index that the input gives, which has at most 67,108,864 bytes, or as many as
-/// stand behind `--limit` in front of the query. Where the words are no such thing, nothing is read.
+/// follow `--limit` in front of the query. Where the words are no such thing, nothing is read.
 pub fn run_find<I: Source, O: Sink, N: Sink>(
     alloc: Global,
     words: &[String],

@@ -1,4 +1,4 @@
-//! The words behind `find`.
+//! The words after `find`.
 ghost use Rattle.std.specs.Prelude.{◌≡◌, ◌≤◌, ℕ, List, IfNone, IfSome, map};
 ghost use Rattle.std.specs.String.{string_bytes};
 ghost use Rattle.index_find.specs.Grammar.{Token};

@@ -184,7 +184,7 @@ lawful_code {X} {lawful} {text} {read} code text' same = record {
   dead = code.dead;
 }
 
--- behind a word
+-- after a word
 pub word_code : {X : Type 0} {lawful : X → Type 0} {text : X → List ℕ} {read : List ℕ → Result (X × List ℕ) Stop} → IsCode lawful text read → (word : List ℕ) → (some : (x : X) × lawful x)
     → IsCode lawful (λ x. word ++ text x) (after_word word read)
 word_code {X} {lawful} {text} {read} code word some = record {

@@ -17,7 +17,7 @@ kept_by_none None left' piece h e = tt
 kept_by_none (Some xs) None piece h e = h
 kept_by_none (Some xs) (Some ys) piece h e = sym (h ∙ ap (λ p. p ++ ys) (nothing_left piece e))
 
--- what was consumed is held behind the rest
+-- what was consumed is held after the rest
 moved : (left left' : Option (List ℕ)) (old new piece : List ℕ) → Consumes left left' piece → new ≡ old ++ piece → Keeps (prepend_known old left) (prepend_known new left')
 moved None left' old new piece h e = tt
 moved (Some xs) None old new piece h e = h

@@ -27,7 +27,7 @@ first_line_of line rest l =
     let e : line ++ rest ≡ l.0 ++ 10 ∷ rest = ap (λ x. x ++ rest) l.2 ∙ append_assoc l.0 (10 ∷ []) rest in
     ap (first_lines 1) e ∙ first_line l.0 rest l.1 ∙ sym l.2
 
--- the first line is all of the bytes, or a line with more behind it
+-- the first line is all of the bytes, or a line with more after it
 abbrev pub Cuts : List ℕ → Type 0
 Cuts bytes = (first_lines 1 bytes ≡ bytes) ⊎ ((rest : List ℕ) × (bytes ≡ first_lines 1 bytes ++ rest) × IsLine (first_lines 1 bytes))
 
@@ -178,7 +178,7 @@ module _ {X : Type 0} {Text : List ℕ → Type 0} {lawful : X → Type 0} {text
         last = omega (arith, newlines-flat bytes (flat_prefix bytes m.1 l.0 l.1 (m.3 ∙ l.2) some));
       }
 
-  -- behind a line of the text, what is broken or cut short is so in the whole
+  -- after a line of the text, what is broken or cut short is so in the whole
   pub broken_behind : (x : X) → lawful x → (input : List ℕ) (k : ℕ) → IsBrokenAt (Next x) input k → IsBrokenAt Text (text x ++ input) (k + 1)
   broken_behind x l input k b =
       let line = grammar.lines x l in

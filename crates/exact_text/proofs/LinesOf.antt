@@ -134,7 +134,7 @@ module _ {X : Type 0} {lawful : X → Type 0} {text : X → List ℕ} {read : Li
   some_bytes : (x : X) → lawful x → (rest : List ℕ) → 0 < length (text x ++ rest)
   some_bytes x l rest = omega (arith, length-append (text x) rest, line_some (text x) (line x l))
 
-  -- behind lines, what is broken or cut short is so in the whole
+  -- after lines, what is broken or cut short is so in the whole
   broken_in : (xs : List X) → AllByRecursion lawful xs → (s : List ℕ) (k j : ℕ) → j ≡ length xs + k → IsBrokenAt Lines s k → IsBrokenAt Lines (flat_map text xs ++ s) j
   broken_in [] all s k j e b = let same : k ≡ j = omega (arith, e) in subst (IsBrokenAt Lines s) same b
   broken_in (x ∷ xs) all s k j e b =
@@ -245,7 +245,7 @@ module _ {X : Type 0} {lawful : X → Type 0} {text : X → List ℕ} {read : Li
             )
       ]
 
-  -- What is a reason behind lines is one for the whole.
+  -- What is a reason after lines is one for the whole.
   pub lines_reason : (r rest left' : Option (List ℕ)) (xs : List X) (most m n first before now : ℕ) (fault : TextFault) → AllByRecursion lawful xs → Consumes r rest (flat_map text xs) → n ≡ length xs → most ≡ n + m → before ≡ first
       → HasReason Lines (lines_room m) n rest left' before now fault → HasReason Lines (lines_room most) 0 r left' first now fault
   lines_reason r rest left' xs most m n first before now Memory all c e full same h = h

@@ -30,11 +30,11 @@ pub Keeps-refl : (r : Option (List ℕ)) → Keeps r r
 Keeps-refl None = tt
 Keeps-refl (Some xs) = refl
 
-pub Keeps-behind : (r left left' : Option (List ℕ)) (w : List ℕ) → Keeps r (prepend_known w left) → Keeps left left' → Keeps r (prepend_known w left')
-Keeps-behind None left left' w k same = tt
-Keeps-behind (Some xs) None left' w k same = absurd k
-Keeps-behind (Some xs) (Some ys) None w k same = absurd same
-Keeps-behind (Some xs) (Some ys) (Some zs) w k same = ap (λ l. w ++ l) same ∙ k
+pub Keeps-after : (r left left' : Option (List ℕ)) (w : List ℕ) → Keeps r (prepend_known w left) → Keeps left left' → Keeps r (prepend_known w left')
+Keeps-after None left left' w k same = tt
+Keeps-after (Some xs) None left' w k same = absurd k
+Keeps-after (Some xs) (Some ys) None w k same = absurd same
+Keeps-after (Some xs) (Some ys) (Some zs) w k same = ap (λ l. w ++ l) same ∙ k
 
 -- the bytes held are those given since
 pub kept_consumes : (r left left' : Option (List ℕ)) (w : List ℕ) → Keeps r (prepend_known w left) → Keeps left left' → Consumes r left' w

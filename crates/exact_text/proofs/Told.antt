@@ -13,7 +13,7 @@ same_told before now (Err f) e = record { later = omega (arith, e); unfailed = t
 pub read_told : {T : Type 0} (before now : ℕ) → before ≤ now → IsTold {T = T} before now (Err Read)
 read_told before now le = record { later = le; unfailed = tt; otherwise = λ other. absurd (other refl) }
 
--- what a call tells behind one that left the count
+-- what a call reports after one that left the count
 pub then_told : {T : Type 0} (first before now : ℕ) (r : Result T TextFault) → before ≡ first → IsTold before now r → IsTold first now r
 then_told first before now r e h = subst (λ n. IsTold n now r) e h
 

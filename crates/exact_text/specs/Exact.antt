@@ -24,7 +24,7 @@ IsShown Text room input k = IsBrokenAt Text (take room input) k ⊎ ((length inp
 abbrev pub IsTooLong : (List ℕ → Type 0) → ℕ → List ℕ → Type 0
 IsTooLong Text room input = (room < length input) × Begins Text (take room input)
 
--- Why the rest of a text wasn't read behind so many lines: a bad line or too many bytes, which the bytes decide; or a failed read, as long
+-- Why the rest of a text wasn't read after so many lines: a bad line or too many bytes, which the bytes decide; or a failed read, as long
 -- as the bytes given decide nothing. Memory is never the reason of a reader that takes none.
 abbrev pub HasReason : (List ℕ → Type 0) → (List ℕ → ℕ) → ℕ → Option (List ℕ) → Option (List ℕ) → ℕ → ℕ → TextFault → Type 0
 HasReason Text room lines rest left' before now Memory = ⊥

@@ -1,4 +1,4 @@
--- The number behind the mutex, and what the threads' shares have to do with it.
+-- The number that the mutex protects, and what the threads' shares have to do with it.
 use Rattle.std.specs.Prelude.{◌≡◌, ℕ, ◌+◌, ◌≤◌, List}
 use Rattle.firefly_threads.specs.Totals.{total}
 

@@ -1,4 +1,4 @@
-//! A first program over the package: a number behind a mutex, from which each thread takes one.
+//! A first program over the package: a number that a mutex protects, from which each thread takes one.
 //!
 //! Promises: in every schedule nothing is left. `tools/new` copies this crate.
 #![tactic(auto)]

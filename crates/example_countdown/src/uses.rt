@@ -1,4 +1,4 @@
-//! What stands behind the mutex, and what a thread has done with it.
+//! What the mutex protects, and what a thread has done with it.
 ghost use Rattle.std.specs.Prelude.{◌≤◌};
 ghost use Rattle.firefly_threads.specs.Guarded.{OneValue};
 ghost use Rattle.firefly_threads.specs.Laws.{one_fits, one_kept};
@@ -7,7 +7,7 @@ ghost use Rattle.example_countdown.specs.CountLaws.{kept, known};
 
 use firefly_threads::{Change, Uses};
 
-/// The use of the package: behind its one mutex stands how many threads haven't counted down yet.
+/// The use of the package: its one mutex protects how many threads haven't counted down yet.
 pub struct Countdown;
 
 impl Uses for Countdown {

@@ -1,4 +1,4 @@
-//! What stands behind the mutex, and what a thread has done with it.
+//! What the mutex protects, and what a thread has done with it.
 ghost use Rattle.firefly_threads.specs.Guarded.{OneValue};
 ghost use Rattle.firefly_threads.specs.Laws.{one_fits, one_kept};
 ghost use Rattle.example_race.specs.Races.{IsKept, IsKnown, Moves, arrived, begins, saw};
@@ -20,7 +20,7 @@ pub struct Part {
     pub seen: u32,
 }
 
-/// The use of the package: a track behind one mutex.
+/// The use of the package: a track that one mutex protects.
 pub struct Race;
 
 impl Uses for Race {

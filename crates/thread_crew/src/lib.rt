@@ -5,7 +5,7 @@
 //! the first `starts`. Out of memory is its one refusal, and then all that was given comes back.
 //! Stands on the scoped threads of std and their promises.
 //! It does not say that a thread was started, that jobs run beside each other, or when a job runs whose thread wasn't started: on the
-//! caller, once all others were started and the caller's own part is over. Tests of `test_firefly` show these, of jobs behind the first
+//! caller, once all others were started and the caller's own part is over. Tests of `test_firefly` show these, of jobs after the first
 //! `starts`; no test sees a thread that the system refuses.
 #![tactic(auto)]
 

@@ -35,7 +35,7 @@ open-none : (l : Layout) → head_text l ≡ open_text l []
 unfolding open_text events_text
 open-none l = sym (append-nil (head_text l))
 
--- what was sent behind what was held, and what is held now
+-- what was sent, followed by what was held, and what is held now
 pub prefix_after : (t0 t1 t2 : Option (List ℕ)) (h0 h1 p : List ℕ) → Sends t0 h0 p t1 h1 → AppendsPrefix t1 t2 h1 → AppendsPrefix t0 t2 (h0 ++ p)
 prefix_after t0 t1 t2 h0 h1 p a k = subst (AppendsPrefix t0 t2) a.2 (prefix_behind t0 t1 t2 a.0 h1 a.1 k)
 

@@ -1,7 +1,7 @@
 use Rattle.std.proofs.Common.{◌≡◌, ◌⊎◌, ◌∙◌, ℕ, List, length, inl, inr, ap, sym, arith}
 use Rattle.std.proofs.KnownBytes.{Keeps-trans}
 use Rattle.exact_text.specs.Intake.{rest_of}
-use Rattle.exact_text.proofs.Stuck.{read_outcome, length_outcome, more_short, stuck_dead, stuck_cut, stuck_fault, Keeps-behind}
+use Rattle.exact_text.proofs.Stuck.{read_outcome, length_outcome, more_short, stuck_dead, stuck_cut, stuck_fault, Keeps-after}
 use Rattle.exact_text.proofs.Told.{same_told, fault_told}
 use Rattle.exact_text.proofs.next_line.take_line.Goals as goal
 
@@ -31,7 +31,7 @@ returns-in-Ok-false-clause-fault g c =
     let h = c.in-Err-More.ensures in
     let f = rw c.in-Ok-false.field-0-test at c.in-Ok-false.ensures.filled in
     stuck_cut (g.met.L.NextLine.is_exact c.args.next.now c.requires) _ (g.I.Source.left c.fill.new.input) c.loop-line.intake.window _ _ _ (omega (arith, c.loop-line.invariant.lines, h.same_lines, f.0.1))
-    (Keeps-behind _ _ _ _ c.loop-line.invariant.rest f.3) f.4 (omega (arith, c.loop-line.invariant.room)) (rw c.in-Err-More.field-0-is at h.stop)
+    (Keeps-after _ _ _ _ c.loop-line.invariant.rest f.3) f.4 (omega (arith, c.loop-line.invariant.room)) (rw c.in-Err-More.field-0-is at h.stop)
 
 pub returns-in-Err-clause-fault : goal.returns-in-Err-clause-fault
 returns-in-Err-clause-fault g c =
