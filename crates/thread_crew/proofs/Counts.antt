@@ -1,7 +1,11 @@
 -- Counts of a list that takes what an iterator yields, one by one.
-use Rattle.std.proofs.Common.{◌≡◌, ◌<◌, ◌≤◌, ◌+◌, ℕ, List, ◌∷◌, length, ap, arith, ⊎_elim}
+use Rattle.std.proofs.Common.{◌≡◌, ◌<◌, ◌≤◌, ◌+◌, ◌++◌, ℕ, List, [], ◌∷◌, length, ap, arith, ⊎_elim}
 use Rattle.std.proofs.lemmas.Bool.{cases_lt}
-use Rattle.thread_crew.specs.Crews.{Told}
+use Rattle.std.specs.List.{sum_by}
+use Rattle.std.proofs.lemmas.List.Sums.{sum_by-append}
+use Rattle.thread_crew.specs.Crews.{Told, held_in}
+use Rattle.thread_crew.specs.declared.child.Child.{Child}
+use Rattle.thread_crew.specs.declared.child.Child.TheVariants.{Started, Held}
 
 module _ (len more was now : ℕ) (took : more ≡ len + 1) (gone : now + 1 ≡ was) where
   pub room_still : (capacity same : ℕ) → same ≡ capacity → len + was ≤ capacity → more + now ≤ same
@@ -24,11 +28,23 @@ pub fits : (len all got capacity : ℕ) → len ≡ all → got ≡ all → got 
 fits len all got capacity e is h = omega arith
 
 -- one more was started or held
-pub told_still : (before len more starts was now : ℕ) → before ≡ len → more ≡ len + 1 → len ≤ starts + was → (starts ≤ before → now ≡ was + 1) → was ≤ now → more ≤ starts + now
-told_still before len more starts was now is took told counted grows = ⊎_elim
+pub told_still : (before len more starts was now : ℕ) → before ≡ len → more ≡ len + 1 → len ≤ starts + was → (starts ≤ before → now ≡ was + 1) → (h : ℕ) → now ≡ was + h → more ≤ starts + now
+told_still before len more starts was now is took told counted k exact = ⊎_elim
     (λ (h : before < starts). omega arith)
     (λ (h : starts ≤ before). let one = counted h in omega arith)
     (cases_lt before starts)
+
+pub held_once : {X P F : Type 0} (child : Child X P F) → held_in child ≤ 1
+held_once (Started h) = omega arith
+held_once (Held f) = omega arith
+
+-- one more child was counted
+pub held_still : {X P F : Type 0} (children more : List (Child X P F)) (child : Child X P F) (was now : ℕ) → more ≡ children ++ child ∷ []
+    → was ≡ sum_by held_in children → now ≡ was + held_in child → now ≡ sum_by held_in more
+held_still children more child was now is counted exact =
+    let all = sum_by-append held_in children (child ∷ []) in
+    let same = ap (λ l. sum_by held_in l) is in
+    omega arith
 
 pub told_of : (starts len jobs held : ℕ) → len ≡ jobs → len ≤ starts + held → held ≤ len → Told starts jobs held
 told_of starts len jobs held is told few = record { enough = omega arith; few = omega arith }

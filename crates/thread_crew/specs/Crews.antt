@@ -17,6 +17,11 @@ module _ {T X : Type 0} (gives : T → X → Type 0) where
   IsRunning job (Going h) = h.promise.task.value ≡ job
   IsRunning job (Done r) = gives job r
 
+-- how many of this child's job are still to be run here: 1 where no thread has it
+abbrev pub held_in : {X P F : Type 0} → Child X P F → ℕ
+held_in (Started h) = 0
+held_in (Held f) = 1
+
 -- a list that holds nothing yet, and has room for so many
 pub record HasRoom {A : Type 0} (many : ℕ) (items : List A) (capacity : ℕ) : Type 0 where
   pub empty : items ≡ []

@@ -1,7 +1,7 @@
 //! Starting the tasks of a crew, and joining them.
 ghost use Rattle.std.specs.Prelude.{◌≡◌, ◌≤◌, ◌<◌, ◌+◌, ◌^◌, ℕ, [], List, vec_len, vec_capacity, IfOk, IfErr, IfSome, length};
-ghost use Rattle.std.specs.List.{AllZip, AllByRecursion};
-ghost use Rattle.thread_crew.specs.Crews.{HasRoom, IsChildOf, IsRunning, Told, Turns};
+ghost use Rattle.std.specs.List.{AllZip, AllByRecursion, sum_by};
+ghost use Rattle.thread_crew.specs.Crews.{HasRoom, IsChildOf, IsRunning, Told, Turns, held_in};
 
 use crate::child::{Child, Running};
 use crate::outcome::{Finished, NotRun};
@@ -88,8 +88,7 @@ fn start_or_hold<
     requires few { held.old + 1 < 2 ^ 64 }
     ensures child { IsChildOf T.run_gives F.pre F.post promise.task.value result }
     ensures counted { starts ≤ before → held.new ≡ held.old + 1 }
-    ensures more { held.old ≤ held.new }
-    ensures once { held.new ≤ held.old + 1 }
+    ensures exact { held.new ≡ held.old + held_in result }
 {
     if before < starts {
         match scope.spawn_with(promise, work) {
@@ -153,6 +152,7 @@ fn finish<
     requires ready { (jobs : List T) × AllZip (IsChildOf T.run_gives F.pre F.post) jobs children.items }
     requires running { HasRoom (vec_len children) later.running.items (vec_capacity later.running) }
     requires results { HasRoom (vec_len children) later.results.items (vec_capacity later.results) }
+    requires held { held ≡ sum_by held_in children.items }
     requires between { M.pre between own held }
     ensures results { (jobs : List T) → AllZip (IsChildOf T.run_gives F.pre F.post) jobs children.items
         → AllZip T.run_gives jobs result.results.items }
