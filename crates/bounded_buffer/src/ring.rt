@@ -150,6 +150,7 @@ impl<T> Ring<T> {
     /// Returns whether the ring is open and as many items were ever put as can be counted.
     pub(crate) fn is_at_end(&self) -> bool
         ensures end { result ≡ false → self.now.shut ≡ false → put_count self.now + 1 < 2 ^ 64 }
+        ensures full { result ≡ true → (self.now.shut ≡ false) × (put_count self.now + 1 ≡ 2 ^ 64) }
     {
         !self.shut && self.taken == u64::MAX - self.items.len() as u64
     }
