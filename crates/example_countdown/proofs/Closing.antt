@@ -12,9 +12,9 @@ opens threads n values is same =
 
 -- at the end each share is 0, so the number is
 pub none_left : (threads : List (Known ℕ ℕ (Prim.Unit {0}))) (left : List (Prim.Unit {0})) (values : List ℕ)
-    → HaveWorked tt (OneValue IsLeft) (λ n x s. s ≡ 0) threads values left → values ≡ 0 ∷ []
+    → HaveWorked tt (OneValue IsLeft) (λ n es x s. s ≡ 0) threads values left → values ≡ 0 ∷ []
 none_left threads left values worked =
     let one = the_value IsLeft values worked.shares worked.kept in
-    let none = total_most (λ (s : ℕ). s) 0 worked.shares (λ t s at. let own = worked.each t s at in let zero = own.2 in omega arith) in
+    let none = total_most (λ (s : ℕ). s) 0 worked.shares (λ t s at. let own = worked.each t s at in let zero = own.goes in omega arith) in
     let nothing : one.0 ≡ 0 = let is = one.2 in omega arith in
     one.1 ∙ ap (λ x. x ∷ []) nothing

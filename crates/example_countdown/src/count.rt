@@ -25,7 +25,7 @@ impl Work<Countdown> for Counting {
 
     ghost asks = { λ job layout w. 0 < layout.mutexes };
 
-    ghost did = { λ job w n left s. s ≡ 0 };
+    ghost did = { λ job w n es left s. s ≡ 0 };
 
     fn work<R: Wait>(
         &self,

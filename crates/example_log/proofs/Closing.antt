@@ -35,9 +35,9 @@ came count q logs log (a ∷ b ∷ c ∷ d ∷ []) long kept parts last =
 came _ _ _ _ _ long _ _ _ = absurd (omega arith)
 
 pub logged : (count : ℕ) (threads : List (Known Mail Deeds (Prim.Unit {0}))) (logs : List Log) (log : Log) (values : List Mail)
-    → HaveWorked tt (OneValue IsKept) (IsPart count) threads values logs → length logs ≡ 4 → get_elem? logs 3 ≡ some log
+    → HaveWorked tt (OneValue IsKept) (λ n es log s. IsPart count n log s) threads values logs → length logs ≡ 4 → get_elem? logs 3 ≡ some log
     → (values ≡ over ∷ []) × (log.lost ≡ false → HasAll log.items.items (range_with_len 0 (3 * count)))
 logged count threads logs log values worked four last =
     let one = the_value IsKept values worked.shares worked.kept in
-    let did = came count one.0 logs log worked.shares (worked.count ∙ four) one.2 worked.each last in
+    let did = came count one.0 logs log worked.shares (worked.count ∙ four) one.2 (λ n s at. let e = worked.each n s at in (e.left, e.is_left, e.goes)) last in
     (one.1 ∙ ap (λ q. q ∷ []) did.0, did.1)

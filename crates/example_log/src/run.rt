@@ -74,7 +74,7 @@ impl Work<Post> for Mailing {
 
     ghost asks = { λ job layout w. (1 ≤ layout.mutexes) × (2 ≤ layout.conditions) };
 
-    ghost did = { λ job w n log s. IsPart job.count n log s };
+    ghost did = { λ job w n es log s. IsPart job.count n log s };
 
     fn work<R: Wait>(
         &self,

@@ -4,7 +4,7 @@ use Rattle.firefly_threads.specs.Names.{Each, HaveWorked, Known, OneValue, first
 use Rattle.firefly_threads.specs.Laws.{the_value}
 use Rattle.example_race.specs.declared.uses.Part.{Part}
 use Rattle.example_race.specs.declared.uses.Track.{Track}
-use Rattle.example_race.specs.Races.{IsKept, IsPart, begins}
+use Rattle.example_race.specs.Races.{IsKept, IsPart, IsRun, begins}
 
 -- three are to run, and nobody has
 pub begins_kept : IsKept (record { begun = false; left = 3 }) (firsts begins 4)
@@ -27,9 +27,9 @@ came q (a ∷ b ∷ c ∷ d ∷ []) long kept parts =
 came _ _ long _ _ = absurd (omega arith)
 
 pub over : (threads : List (Known Track Part (Prim.Unit {0}))) (left : List (Prim.Unit {0})) (values : List Track)
-    → HaveWorked tt (OneValue IsKept) (λ n x s. IsPart n s) threads values left → length left ≡ 4
+    → HaveWorked tt (OneValue IsKept) (λ n es x s. IsPart n s × IsRun n es) threads values left → length left ≡ 4
     → values ≡ record { begun = true; left = 0 } ∷ []
 over threads left values worked four =
     let one = the_value IsKept values worked.shares worked.kept in
-    let did = came one.0 worked.shares (worked.count ∙ four) one.2 (λ n s at. (worked.each n s at).2) in
+    let did = came one.0 worked.shares (worked.count ∙ four) one.2 (λ n s at. (worked.each n s at).goes.0) in
     one.1 ∙ ap (λ q. q ∷ []) did

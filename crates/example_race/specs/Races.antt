@@ -1,6 +1,7 @@
 -- The track, and what threads did on it.
-use Rattle.std.specs.Prelude.{◌≡◌, ℕ, ◌+◌, ◌≤◌, ◌<◌, cond, eqb, false, List}
-use Rattle.firefly_threads.specs.Names.{total}
+use Rattle.std.specs.Prelude.{◌≡◌, ℕ, ◌+◌, ◌≤◌, ◌<◌, cond, eqb, false, List, [], ◌∷◌, ◌++◌}
+use Rattle.firefly_threads.specs.Names.{Event, total, waits}
+use Rattle.firefly_threads.specs.Plays.{acquire_event, broadcast_action, event, release_event, signal_action}
 use Rattle.example_race.specs.declared.uses.Part.{Part}
 use Rattle.example_race.specs.declared.uses.Track.{Track}
 
@@ -46,3 +47,17 @@ pub record Moves (x y : Track) (s r : Part) : Type 0 where
 pub record IsPart (n : ℕ) (s : Part) : Type 0 where
   pub starter : n ≡ 0 → s ≡ saw
   pub runner : 0 < n → s ≡ arrived
+
+-- the thread n begins the race, and wakes all runners
+abbrev pub starts : ℕ → List Event
+starts n = acquire_event n 0 ∷ release_event n 0 ∷ event n (broadcast_action 0 []) ∷ []
+
+-- it waits k times in the condition c, and then works on the track
+abbrev pub works : ℕ → ℕ → ℕ → List Event
+works n c k = (acquire_event n 0 ∷ waits n 0 c k) ++ release_event n 0 ∷ []
+
+-- the events of the thread n: the starter begins the race, and waits until all have arrived. Each
+-- other waits for the start, arrives, and signals, which leaves some waiting
+pub record IsRun (n : ℕ) (es : List Event) : Type 0 where
+  pub starter : n ≡ 0 → (k : ℕ) × (es ≡ starts n ++ works n 1 k)
+  pub runner : 0 < n → (k : ℕ) × (left : List ℕ) × (es ≡ works n 0 k ++ event n (signal_action 1 left) ∷ [])

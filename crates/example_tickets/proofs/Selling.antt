@@ -21,7 +21,7 @@ opens tickets n values is =
 
 -- all tickets were sold, and none is left
 pub all_sold : (tickets : ℕ) (threads : List (Known ℕ Sold ℕ)) (sold values : List ℕ)
-    → HaveWorked tickets (AreSold tickets) (λ n k s. HasSold k s) threads values sold → 0 < length sold
+    → HaveWorked tickets (AreSold tickets) (λ n es k s. HasSold k s) threads values sold → 0 < length sold
     → (sum sold ≡ tickets) × (values ≡ 0 ∷ [])
 all_sold tickets threads sold values worked any =
     let shares = worked.shares in
@@ -29,7 +29,7 @@ all_sold tickets threads sold values worked any =
     let many = worked.count in
     let told : Each (λ n s. (get_elem? sold n ≡ some s.count) × (s.none_left ≡ true)) shares = λ n s at.
     let own = worked.each n s at in
-    (own.1 ∙ ap some (sym own.2.count), own.2.seen) in
+    (own.is_left ∙ ap some (sym own.goes.count), own.goes.seen) in
     let first = at_below shares 0 (omega arith) in
     let none : left.0 ≡ 0 = left.2.seen 0 first.0 first.1 (told 0 first.0 first.1).1 in
     let same = sum_said (λ (s : Sold). s.count) sold shares (omega arith) (λ n s at. (told n s at).0) in
@@ -38,8 +38,8 @@ all_sold tickets threads sold values worked any =
 
 -- each thread has sold as many as it says
 pub all_said : (tickets : ℕ) (threads : List (Known ℕ Sold ℕ)) (sold values : List ℕ)
-    → HaveWorked tickets (AreSold tickets) (λ n k s. HasSold k s) threads values sold → Each (IsSaid tickets sold) threads
+    → HaveWorked tickets (AreSold tickets) (λ n es k s. HasSold k s) threads values sold → Each (IsSaid tickets sold) threads
 all_said tickets threads sold values worked = λ n t at.
     let own = share_of threads worked.shares worked.each_share n t at in
     let did = worked.each n own.0 own.1 in
-    record { world = (worked.same n t at).1; sold = did.0; is_said = did.1; share = own.0; is_share = own.2; has = did.2 }
+    record { world = (worked.same n t at).1; sold = did.left; is_said = did.is_left; share = own.0; is_share = own.2; has = did.goes }

@@ -49,7 +49,7 @@ impl Work<Tickets> for Selling {
 
     ghost asks = { λ job layout w. (0 < layout.mutexes) × (w < 2 ^ 32) };
 
-    ghost did = { λ job w n sold s. HasSold sold s };
+    ghost did = { λ job w n es sold s. HasSold sold s };
 
     fn work<R: Wait>(
         &self,

@@ -2,7 +2,7 @@
 -- value at a time, what calls add, and lists.
 pub use Rattle.atomic_table.proofs.Lists.{at_index, at_set, set_again, set_else, set_here}
 pub use Rattle.firefly_threads.specs.Counting.{total_same}
-pub use Rattle.firefly_threads.specs.Tracing.{is_traced}
+pub use Rattle.firefly_threads.specs.Tracing.{in_history, is_traced}
 pub use Rattle.nub.proofs.Adding.{added, added_on, adds_on}
 pub use Rattle.nub.proofs.Guards.{guarded_after, one_after, one_begins, the_value}
 pub use Rattle.nub.proofs.Holding.{fits_any, fits_own, gives, held_back, held_on, keeps, may_give, retakes, takes}

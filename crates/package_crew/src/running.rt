@@ -22,7 +22,7 @@ use std::thread::Threads;
 ///
 /// ghost asks = { λ job layout w. (1 ≤ layout.mutexes) × (2 ≤ layout.conditions) };
 ///
-/// ghost did = { λ job w n log s. IsPart job.count n log s };
+/// ghost did = { λ job w n es log s. IsPart job.count n log s };
 /// ```
 pub trait Work<U: Uses>: Sync {
     /// What a thread leaves beside its share.
@@ -31,9 +31,9 @@ pub trait Work<U: Uses>: Sync {
     // What the work asks of the layout and the world.
     ghost asks: { Self → Layout → U.World → Type 0 };
 
-    // What the work promises of the world, the thread's number, what the thread left, and its last
-    // share.
-    ghost did: { Self → U.World → ℕ → Self.Left → U.Share → Type 0 };
+    // What the work promises of the world, the thread's number, its own events, what the thread
+    // left, and its last share.
+    ghost did: { Self → U.World → ℕ → List Event → Self.Left → U.Share → Type 0 };
 
     /// Does the work of this thread, which has its first share and holds no mutex, neither at the
     /// start nor at the end.

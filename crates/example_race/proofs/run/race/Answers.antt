@@ -1,5 +1,5 @@
-use Rattle.std.proofs.Common.{rules, ap, ◌∙◌, refl}
-use Rattle.firefly_threads.specs.Laws.{is_traced, one_opens}
+use Rattle.std.proofs.Common.{rules, ap, arith, ◌∙◌, refl}
+use Rattle.firefly_threads.specs.Laws.{in_history, is_traced, one_opens}
 use Rattle.example_race.specs.Races.{IsKept, begins}
 use Rattle.example_race.proofs.Closing.{begins_kept, over}
 use Rattle.example_race.proofs.run.race.Goals as goal
@@ -15,4 +15,11 @@ returns g c =
     record {
       over = over _ _ _ done.worked four;
       traced = is_traced c.of-layout.result _ (search rules) done.layout (done.traced refl);
+      ran = (
+        (done.traced refl).0,
+        (done.traced refl).1,
+        λ n low.
+            let own = in_history _ _ _ _ _ _ _ _ done.worked (done.traced refl).2 n (omega arith) in
+            own.3.1,
+      );
     }
