@@ -1,11 +1,11 @@
 //! Waits for a value, adds 1 to it, and wakes the threads that wait for the next one.
-ghost use Rattle.std.specs.Prelude.{◌≡◌, ℕ, ◌<◌, ◌+◌, ◌∷◌, ◌++◌, List, Some, true};
+ghost use Rattle.std.specs.Prelude.{◌≡◌, ℕ, ◌<◌, ◌+◌, ◌∷◌, ◌++◌, List, Some, true, false};
 ghost use Rattle.larch_actions.specs.declared.event.CondId.{CondId};
 ghost use Rattle.nub.specs.Holding.{IsHolding};
 ghost use Rattle.nub.specs.Idle.{IsIdle};
 ghost use Rattle.nub_rule.specs.Plays.{acquire_event, release_event};
 ghost use Rattle.nub.specs.Rest.{Added as Told, AtRest};
-ghost use Rattle.monitor.specs.Waits.{waits};
+ghost use Rattle.monitor.specs.Waits.{AreRefused, waits};
 ghost use Rattle.test_turns.specs.Turns.{Wakes, ends_turn};
 ghost use Rattle.larch_actions.specs.declared.event.Event.{Event};
 ghost use Rattle.test_turns.specs.declared.turns.Wake.{Wake};
@@ -109,7 +109,7 @@ pub fn take_turn<F: Fn(u64) -> bool, G: Fn(u64) -> Wake, R: Wait>(
     ensures part { (whom : Wake) × G.post part.now result whom
         × ((k : ℕ) × (es : List Event) × Wakes whom me.old.number es × Told (acquire_event me.old.number turn.mutex.0
         ∷ (waits me.old.number turn.mutex.0 turn.cond.0 k ++ ends_turn turn.after (release_event me.old.number turn.mutex.0) es))
-        me.old me.new) }
+        me.old me.new × AreRefused (λ x. F.post may_go.now x false) k) }
     ensures idle { (n : ℕ) (s : List Added) → IsIdle p.now n s me.old → IsIdle p.now n (grown turn.mutex.0 result (result + 1) s) me.new }
 {
     let got = acquire(rt, p, me, turn.mutex);

@@ -1,9 +1,15 @@
-use Rattle.std.proofs.Common.{ℕ, rules, arith, sym, subst, ◌∙◌}
+use Rattle.std.proofs.Common.{ℕ, false, rules, arith, sym, subst, ◌∙◌}
+use Rattle.monitor.specs.Waits.{AreRefused, waits}
+use Rattle.nub_rule.specs.Plays.{release_event}
+use Rattle.nub.specs.Rest.{Added}
+use Rattle.nub.proofs.Adding.{added, added_on}
+use Rattle.test_turns.specs.Turns.{Wakes, ends_turn}
 use Rattle.nub.specs.Holding.{IsHolding}
 use Rattle.nub.specs.Idle.{IsIdle}
 use Rattle.nub.proofs.Holding.{fits_any}
 use Rattle.sum_uses.specs.Sums.{IsAbove, grown}
 use Rattle.sum_uses.proofs.Adding.{adding_grows, staying_grows}
+use Rattle.test_turns.proofs.Refusals.{refused_so}
 use Rattle.test_turns.proofs.turns.take_turn.Given.{Over}
 use Rattle.test_turns.proofs.turns.take_turn.Goals.{After-acquire-got, After-wait_until-value}
 use Rattle.test_turns.proofs.turns.take_turn.Goals as goal
@@ -45,6 +51,21 @@ end_turn-requires-clause-holding g c =
       c.wait_until-value.result,
       (has g (goal.at.end_turn-requires-clause-holding g c).After-wait_until-value).0,
       adding_grows c.args.turn.mutex.0 c.wait_until-value.result c.add_to-next.result i.1 (omega arith) (omega arith),
+    )
+
+pub returns-clause-part : goal.returns-clause-part
+returns-clause-part g c =
+    let m = c.args.turn.mutex.0 in
+    let own = c.acquire-got.ensures.same.number in
+    let number = c.wait_until-value.ensures.same.number ∙ own in
+    let event = c.wait_until-value.ensures.event in
+    let woke = c.end_turn.ensures.woke in
+    let waited = subst (λ (n : ℕ). Added (waits n m c.args.turn.cond.0 event.0) c.acquire-got.new.me c.wait_until-value.new.me) own event.1 in
+    let ended = subst (λ (n : ℕ). Wakes c.part-whom.result n woke.0 × Added (ends_turn c.args.turn.after (release_event n m) woke.0) c.wait_until-value.new.me c.end_turn.new.me) number (woke.1, woke.2) in
+    let refused : AreRefused (λ (x : ℕ). g.F.Fn.post c.args.may_go.now (x, tt) false) event.0 = refused_so _ _ _ (λ x h. search rules) event.2.all in (
+      c.part-whom.result,
+      c.part-whom.ensures,
+      (event.0, woke.0, ended.0, added_on _ _ _ _ _ (added _ _ _ _ c.acquire-got.ensures.event) (added_on _ _ _ _ _ waited ended.1), refused),
     )
 
 pub returns-clause-goes : goal.returns-clause-goes
