@@ -7,8 +7,8 @@
 //! lock invariant holds of the last values and of shares that are each what the work says, and the
 //! history of a traced run is whole. All three fail only if there is no memory; the first two have
 //! then run no closure. Built on a crew of threads and on the closing of a package. Nothing is
-//! promised about threads that run at the same time, nor that one ever ends. A `BeforeStart` has no
-//! clause, since no contract can say that a thread waited.
+//! promised about threads that run at the same time, nor that one ever ends. Of a `BeforeStart` a
+//! contract can say that it was called, not that a thread waited.
 #![tactic(auto)]
 
 mod before_start;

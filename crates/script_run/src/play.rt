@@ -17,6 +17,7 @@ use bin_semaphore::{p, v};
 use condition::{broadcast, signal};
 use nub::join_thread;
 use nub_rule::{Package, Thread};
+use package_crew::BeforeStart;
 use script_text::{Line, Operation};
 use std::sync::Wait;
 use sum_uses::{AddChange, SumUses};
@@ -84,13 +85,15 @@ pub fn play_line<R: Wait>(
     }
 }
 
-/// Plays all lines of the thread, in order.
-pub fn play<R: Wait>(
+/// Plays all lines of the thread, which has called `before_start`, in order.
+pub fn play<R: Wait, G: BeforeStart>(
     rt: &R,
     pkg: &Package<SumUses>,
     me: Thread<SumUses>,
     lines: &[Line],
+    _before_start: &G,
 ) -> Thread<SumUses>
+    requires begun { G.begun _before_start.now me.number }
     requires version { pkg.now.layout.version ≡ One }
     requires script { IsScript pkg.now.layout lines.now }
     requires few { length lines.now < 100000 }

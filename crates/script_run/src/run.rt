@@ -113,7 +113,7 @@ fn play_all<R: Threads + Wait + Sync, G: BeforeStart>(
             ensures { IsPlayed pkg.entry.now lines.entry.now me.number result.0 }
         {
             before_start.begins(me.number());
-            (play(rt, pkg, me, lines), ())
+            (play(rt, pkg, me, lines, before_start), ())
         },
     )?;
     Ok(threads)

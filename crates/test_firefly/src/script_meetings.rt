@@ -1,9 +1,11 @@
-//! A script whose threads wait for each other.
+//! Scripts whose threads wait for each other, before their first lines or in a line.
 use crate::same::same;
 use firefly::{Script, read_script, run_script};
 use firefly_outside::MemSource;
+use indexer::BeforeStart;
 use std::alloc::{AllocError, Global};
 use std::sync::Wait;
+use std::sync::atomic::{AtomicU64, Ordering};
 use std::test::Fail;
 use std::thread::Threads;
 use test_project::Meeting;
@@ -67,5 +69,48 @@ fn two_threads_of_a_script_meet(rt: HostRuntime) -> Result<(), Fail> {
     assert!(rt; meeting.was_kept());
     same(&rt, &values.as_slice(), &[2000].as_slice());
     same(&rt, &events, &Some(4000));
+    Ok(())
+}
+
+// The numbers of three threads plus one, in the order in which they begin: that of the first in the
+// hundreds, of the second in the tens, of the third in the ones.
+#[derive(Drop)]
+struct Order(AtomicU64);
+
+impl BeforeStart for Order {
+    ghost begun = { λ o n. Unit };
+
+    fn begins(&self, number: u32) {
+        let before = self.0.load(Ordering::SeqCst);
+        let number = u64::from(number);
+        self.0.store(
+            before.wrapping_mul(10).wrapping_add(number).wrapping_add(1),
+            Ordering::SeqCst,
+        );
+    }
+}
+
+// Runs a script in which each of three threads but the last forks the next one and waits for its
+// end. The script isn't alive in the test.
+fn run_in_order<R: Threads + Wait + Sync>(
+    rt: &R,
+    alloc: Global,
+    order: &Order,
+) -> Result<(), Fail> {
+    let script = script_of(
+        alloc,
+        "firefly-script 2\nthreads 3 mutexes 0 conditions 0 semaphores 0\nt0 fork t1\nt0 join t1\nt1 fork t2\nt1 join t2\n",
+    )?;
+    drop(run_script(rt, alloc, &script, order)?);
+    Ok(())
+}
+
+// A thread begins before its first line: if its lines came first, the first would begin last, since
+// it waits in them for the end of the second.
+#[test]
+fn threads_begin_before_their_lines(rt: HostRuntime) -> Result<(), Fail> {
+    let order = Order(AtomicU64::new(0));
+    run_in_order(&rt, rt.alloc(), &order)?;
+    same(&rt, &order.0.load(Ordering::SeqCst), &123);
     Ok(())
 }

@@ -44,6 +44,8 @@ impl Meeting {
 }
 
 impl BeforeStart for Meeting {
+    ghost begun = { λ m n. Unit };
+
     fn begins(&self, number: u32) {
         let me = number.wrapping_sub(self.first) as usize;
         if me < 2 && !self.meet(me) {
