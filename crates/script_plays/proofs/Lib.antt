@@ -1,0 +1,2 @@
+pub mod Scened
+pub mod Bounded

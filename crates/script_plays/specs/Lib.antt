@@ -1,0 +1,4 @@
+pub mod Choices
+pub mod Scenes
+pub mod Plays
+pub mod Laws

@@ -1,0 +1,27 @@
+//! Laws of plays.
+ghost use Rattle.script_plays.specs.Laws.{PlaysAreLegal, PlaysHaveOneScene, EndsExcludesStuck, PlaysAreBounded, PlaysCanBeFinished};
+
+/// A play is a legal list of events.
+pub fn plays_are_legal()
+    ensures { PlaysAreLegal }
+{}
+
+/// A play leads to one scene.
+pub fn plays_have_one_scene()
+    ensures { PlaysHaveOneScene }
+{}
+
+/// Where each play is whole or can go on, none is stuck.
+pub fn ends_excludes_stuck()
+    ensures { EndsExcludesStuck }
+{}
+
+/// A play has at most so many events as the lines and the threads say: no script plays for ever.
+pub fn plays_are_bounded()
+    ensures { PlaysAreBounded }
+{}
+
+/// Where each play is whole or can go on, each is the beginning of a whole one.
+pub fn plays_can_be_finished()
+    ensures { PlaysCanBeFinished }
+{}

@@ -1,0 +1,15 @@
+pub mod Shown
+pub mod Rows
+pub mod Planning
+pub mod Ending
+pub mod Keyed
+pub mod Moved
+pub mod Growing
+pub mod Trying
+pub mod Choosing
+pub mod Expanding
+pub mod Tells
+pub mod Starting
+pub mod Searching
+pub mod Stepping
+pub mod Tracing

@@ -1,0 +1,9 @@
+use Rattle.std.proofs.Common.{◌<◌, length, arith}
+use Rattle.script_search.specs.Boards.{moment_of}
+use Rattle.script_search.proofs.Shown.{begun_is}
+use Rattle.script_search.proofs.board.Board.has_begun.Goals as goal
+
+pub returns : goal.returns
+returns c =
+    let low : c.args.t < length c.args.self.now.threads.items = omega (arith, c.args.self.now.threads.ok.0) in
+    begun_is (moment_of c.args.self.now) c.args.t low c.index.result.now c.index.ensures c.args.what c.has_begun.result c.has_begun.ensures

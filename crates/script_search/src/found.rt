@@ -1,0 +1,128 @@
+//! The boards that a search has found.
+ghost use Rattle.std.specs.Prelude.{◌≡◌, ◌<◌, ◌↔◌, IsTrue, [], length, slice_get, Some, IfOk, IfErr, OnOk};
+ghost use Rattle.script_search.specs.declared.found.Stop.TheVariants as Stop;
+ghost use Rattle.script_search.specs.Boards.{moment_of};
+ghost use Rattle.script_search.specs.Founds.{moments_of, keys_of, IsThere, IsKeyed, Pushes, Adds, IsFull, IsAlone};
+ghost use Rattle.script_search.specs.Tries.{IsAt};
+ghost use Rattle.script_search.specs.Keys.{key_of};
+
+use crate::board::Board;
+use crate::pack::pack;
+use indexmap::IndexSet;
+use std::alloc::{AllocError, Global};
+use thiserror::Error;
+
+/// Why a search has no answer.
+#[derive(Clone, Copy, Debug, PartialEq, Eq, Error)]
+pub enum Stop {
+    #[error("out of memory")]
+    Memory,
+    #[error("too many scenes")]
+    Limit,
+}
+
+impl From<AllocError> for Stop {
+    ghost from_gives = { λ _ stop. stop ≡ Stop.Memory };
+
+    fn from(_: AllocError) -> Stop {
+        Stop::Memory
+    }
+}
+
+/// The boards that a search has found, in order, their numbers, and from which of them each was found.
+#[derive(Drop)]
+pub struct Found {
+    keys: IndexSet<Vec<u32>>,
+    boards: Vec<Board>,
+    parents: Vec<u32>,
+    limit: u32,
+}
+
+impl Found {
+    // Nothing is found yet.
+    fn empty(alloc: Global, limit: u32) -> Found
+        ensures keyed { IsKeyed result }
+        ensures none { moments_of result ≡ [] }
+        ensures parents { result.parents.items ≡ [] }
+        ensures limit { result.limit ≡ limit }
+    {
+        Found {
+            keys: IndexSet::new(alloc),
+            boards: Vec::new(alloc),
+            parents: Vec::new(alloc),
+            limit,
+        }
+    }
+
+    /// The board alone, unless none is allowed.
+    pub fn first(alloc: Global, board: Board, limit: u32) -> Result<Found, Stop>
+        ensures ok { IfOk result (λ f. IsAlone f (moment_of board) limit) }
+        ensures full { IfErr result (λ e. e ≡ Stop.Limit → limit ≡ 0) }
+    {
+        let mut found = Found::empty(alloc, limit);
+        match found.add(alloc, board, 0) {
+            Ok(()) => Ok(found),
+            Err(stop) => Err(stop),
+        }
+    }
+
+    /// Whether a board stands at the place.
+    pub fn has(&self, place: u32) -> bool
+        ensures { IsTrue result ↔ (place < length (moments_of self.now)) }
+    {
+        (place as usize) < self.boards.len()
+    }
+
+    /// The board at the place.
+    pub fn board(&self, place: u32) -> &Board
+        requires { place < length (moments_of self.now) }
+        ensures { IsAt self.now place (moment_of result.now) }
+    {
+        &self.boards[place as usize]
+    }
+
+    /// The place of the board from which the one at this place was found.
+    pub fn parent(&self, place: u32) -> u32
+        requires { place < length self.now.parents.items }
+        ensures { slice_get self.now.parents.items place ≡ Some result }
+    {
+        self.parents[place as usize]
+    }
+
+    // Adds a board that isn't there yet.
+    fn push(&mut self, key: Vec<u32>, board: Board, parent: u32) -> Result<(), AllocError>
+        requires keyed { IsKeyed self.old }
+        requires key { key.items ≡ key_of (moment_of board) }
+        requires absent { IsThere (keys_of self.old) key.items → ⊥ }
+        requires room { length (moments_of self.old) < self.old.limit }
+        ensures keyed { IsKeyed self.new }
+        ensures ok { OnOk result (Pushes self.old self.new (moment_of board) parent) }
+    {
+        self.parents.reserve(1)?;
+        self.boards.reserve(1)?;
+        if let Err(_) = self.keys.insert(key) {
+            return Err(AllocError);
+        }
+        self.boards.push_reserved(board);
+        self.parents.push_reserved(parent);
+        Ok(())
+    }
+
+    /// Adds the board, which was found from the one at that place, where it isn't there yet.
+    pub fn add(&mut self, alloc: Global, board: Board, parent: u32) -> Result<(), Stop>
+        requires { IsKeyed self.old }
+        ensures keyed { IsKeyed self.new }
+        ensures ok { OnOk result (Adds self.old self.new (moment_of board) parent) }
+        ensures full { IfErr result (λ e. e ≡ Stop.Limit → IsFull self.old (moment_of board)) }
+    {
+        let key = pack(alloc, &board)?;
+        if self.keys.contains(&key) {
+            return Ok(());
+        }
+        if self.boards.len() == self.limit as usize {
+            return Err(Stop::Limit);
+        }
+        self.push(key, board, parent)?;
+        Ok(())
+    }
+}

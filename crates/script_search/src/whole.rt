@@ -1,0 +1,40 @@
+//! Whether all threads of a scene are finished.
+ghost use Rattle.std.specs.Prelude.{◌≡◌, ◌<◌, ◌↔◌, IsTrue};
+ghost use Rattle.script_text.specs.Operations.{is_born, none_forked, forked_after};
+ghost use Rattle.script_plays.specs.Plays.{IsFinished, AllFinished};
+ghost use Rattle.script_search.specs.Boards.{moment_of, scene_of, IsBoard};
+
+use crate::board::Board;
+use crate::plan::Plan;
+use larch_actions::Version;
+
+// Whether the thread lives at first or is forked by a line.
+fn is_born(plan: &Plan, t: u32) -> bool
+    ensures { result ≡ is_born (forked_after none_forked plan.now.lines) t }
+{
+    t == 0 || plan.is_forked(t)
+}
+
+fn is_finished(plan: &Plan, board: &Board, t: u32) -> bool
+    requires thread { t < plan.now.layout.threads }
+    requires board { IsBoard plan.now.layout (moment_of board.now) }
+    ensures { IsTrue result ↔ IsFinished plan.now.layout.version plan.now.lines (scene_of (moment_of board.now)) t }
+{
+    match plan.layout().version {
+        Version::One => plan.count(t) <= board.played(t),
+        Version::Two => board.has_ended(t) || !is_born(plan, t),
+    }
+}
+
+/// Whether all threads are finished.
+pub fn is_whole(plan: &Plan, board: &Board) -> bool
+    requires { IsBoard plan.now.layout (moment_of board.now) }
+    ensures { IsTrue result ↔ AllFinished plan.now.layout plan.now.lines (scene_of (moment_of board.now)) }
+{
+    for t in 0..plan.layout().threads {
+        if !is_finished(plan, board, t) {
+            return false;
+        }
+    }
+    true
+}
