@@ -1,0 +1,4 @@
+pub mod Lining
+pub mod Named
+pub mod Reporting
+pub mod Answering

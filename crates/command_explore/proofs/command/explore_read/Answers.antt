@@ -1,0 +1,13 @@
+use Rattle.std.proofs.Common.{refl}
+use Rattle.command_endings.specs.Changes.{change_of}
+use Rattle.command_explore.proofs.Answering.{no_memory}
+use Rattle.command_explore.proofs.command.explore_read.Goals as goal
+
+pub returns-in-Limit : goal.returns-in-Limit
+returns-in-Limit g c = (c.in-Err.ensures.limit c.in-Limit.is, (refl, refl), c.say_stopped.ensures)
+
+pub returns-in-Memory : goal.returns-in-Memory
+returns-in-Memory g c =
+    let out = change_of g.O.Sink.held g.O.Sink.faults c.args.out.now c.args.out.now in
+    let notes = change_of g.N.Sink.held g.N.Sink.faults c.args.notes.now c.ends.new.notes in
+    no_memory c.args.limit c.args.script.now.layout c.args.script.now.lines out notes c.ends.result c.ends.ensures.status (refl, refl) c.ends.ensures.notes

@@ -1,0 +1,5 @@
+pub mod Statuses
+pub mod Words
+pub mod Messages
+pub mod Waits
+pub mod Explore
