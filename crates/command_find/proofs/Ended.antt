@@ -6,13 +6,14 @@ use Rattle.index_find.specs.Grammar.{Token, IsReading}
 use Rattle.command_endings.specs.declared.status.Status.{Status}
 use Rattle.command_endings.specs.declared.status.Status.TheVariants.{Done, Usage, ReadFault, SinkFault, Stopped, Memory, Illegal, BadText, TooMany, TooLong}
 use Rattle.command_endings.specs.Changes.{Change, IsStill}
-use Rattle.index_text.specs.declared.fault.IndexFault.{IndexFault}
-use Rattle.index_text.specs.declared.fault.IndexFault.TheVariants as fault
+use Rattle.command_endings.specs.Endings.{SaysFault}
+use Rattle.exact_text.specs.declared.fault.TextFault.{TextFault}
+use Rattle.exact_text.specs.declared.fault.TextFault.TheVariants as fault
 use Rattle.command_endings.specs.Printing.{Prints}
 use Rattle.index_find.specs.Meaning.{AreMeant}
 use Rattle.command_find.specs.Asking.{Asks}
 use Rattle.command_find.specs.Lines.{lines_of}
-use Rattle.command_find.specs.Find.{Fails, IsTextOf, IsFound, PrintsFound, EndsBy, FindAnswers, SaysFault}
+use Rattle.command_find.specs.Find.{Fails, IsTextOf, IsFound, PrintsFound, EndsBy, FindAnswers}
 
 pub ended : (most : ℕ) (tree : Tree) (input out notes : Change) (status s : Status) → status ≡ s → EndsBy most tree input out notes s → EndsBy most tree input out notes status
 ended most tree input out notes status s e h = subst (λ (x : Status). EndsBy most tree input out notes x) (sym e) h
@@ -31,7 +32,7 @@ found most tree rows input out notes status read (inl h) = printed most tree row
 found most tree rows input out notes status read (inr h) = ended most tree input out notes status Memory h.0 (h.1, h.2)
 
 -- the index wasn't read
-pub refused : (most : ℕ) (tree : Tree) (input out notes : Change) (status : Status) (f : IndexFault) → Fails most input f → IsStill out → SaysFault f notes status → EndsBy most tree input out notes status
+pub refused : (most : ℕ) (tree : Tree) (input out notes : Change) (status : Status) (f : TextFault) → Fails most input f → IsStill out → SaysFault f notes status → EndsBy most tree input out notes status
 refused most tree input out notes status (fault.BadLine k) why still h = ended most tree input out notes status BadText h.0 (k, why, still, h.1)
 refused most tree input out notes status fault.TooLong why still h = ended most tree input out notes status TooLong h.0 (why, still, h.1)
 refused most tree input out notes status fault.Read why still h = ended most tree input out notes status ReadFault h.0 (why, still, h.1)

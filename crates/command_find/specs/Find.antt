@@ -1,10 +1,9 @@
 -- What the command `find` answers.
-use Rattle.std.specs.Prelude.{◌≡◌, ◌≢◌, ◌⊎◌, ℕ, ◌<◌, ◌≤◌, List, length, take, Some, IfSome}
+use Rattle.std.specs.Prelude.{◌≡◌, ◌≢◌, ◌⊎◌, ℕ, ◌≤◌, List, length, Some, IfSome}
 use Rattle.word_index.specs.Index.{Row}
-use Rattle.exact_text.specs.Prefixes.{Begins}
-use Rattle.exact_text.specs.Exact.{IsShown}
-use Rattle.index_text.specs.declared.fault.IndexFault.{IndexFault}
-use Rattle.index_text.specs.declared.fault.IndexFault.TheVariants as fault
+use Rattle.exact_text.specs.declared.fault.TextFault.{TextFault}
+use Rattle.exact_text.specs.declared.fault.TextFault.TheVariants as fault
+use Rattle.exact_text.specs.Exact.{IsShown, IsTooLong}
 use Rattle.index_text.specs.Texts.{ReadsAs, IsIndexText}
 use Rattle.index_text.specs.Faults.{HasReasonIn}
 use Rattle.index_find.specs.Tree.{Tree}
@@ -37,15 +36,8 @@ PrintsFound tree rows out notes status =
     ⊎ ((status ≡ Memory) × IsStill out × Notes notes memory_message)
 
 -- why the input can't be read
-abbrev pub Fails : ℕ → Change → IndexFault → Type 0
-Fails most input f = HasReasonIn most input.old input.before input.now f
-
--- the status and the message of each reason
-abbrev pub SaysFault : IndexFault → Change → Status → Type 0
-SaysFault (fault.BadLine k) notes status = (status ≡ BadText) × Notes notes (bad_line_message k)
-SaysFault fault.TooLong notes status = (status ≡ TooLong) × Notes notes too_long_message
-SaysFault fault.Read notes status = (status ≡ ReadFault) × Notes notes input_fault_message
-SaysFault fault.Memory notes status = (status ≡ Memory) × Notes notes memory_message
+abbrev pub Fails : ℕ → Change → TextFault → Type 0
+Fails most input f = HasReasonIn most input.old input.new input.before input.now f
 
 -- each status by its cause, once the query is read
 abbrev pub EndsBy : ℕ → Tree → Change → Change → Change → Status → Type 0
@@ -76,7 +68,7 @@ FindAnswers words input out notes status = Answers words input out notes status
 abbrev pub IsDue : ℕ → List ℕ → Status → Type 0
 IsDue most bytes Done = (length bytes ≤ most) × IsIndexText bytes
 IsDue most bytes BadText = (k : ℕ) × IsShown IsIndexText most bytes k
-IsDue most bytes TooLong = (most < length bytes) × Begins IsIndexText (take most bytes)
+IsDue most bytes TooLong = IsTooLong IsIndexText most bytes
 IsDue most bytes status = ⊥
 
 -- where the input tells its bytes, the words ask for a query, memory sufficed and no read failed, the status is the one that is due, unless the sink failed

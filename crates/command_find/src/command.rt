@@ -5,13 +5,13 @@ ghost use Rattle.command_endings.specs.Changes.{change_of};
 ghost use Rattle.index_find.specs.Postfix.{tree_of};
 ghost use Rattle.index_text.specs.Faults.{most_bytes};
 ghost use Rattle.command_endings.specs.Endings.{TellsFault};
-ghost use Rattle.command_find.specs.Find.{PrintsFound, EndsBy, FindAnswers, Decided, SaysFault};
+ghost use Rattle.command_find.specs.Find.{PrintsFound, EndsBy, FindAnswers, Decided};
 
 use crate::lines::print_paths;
 use crate::words::read_limit;
-use command_endings::{Ending, Status, ends};
+use command_endings::{Ending, Status, ends, ends_unread};
 use firefly_outside::{Sink, Source};
-use index_find::{Index, IndexFault, Query, QueryFault, find, read_query};
+use index_find::{Index, Query, QueryFault, find, read_query};
 use index_text::read_index_within;
 use std::alloc::Global;
 
@@ -32,23 +32,11 @@ fn print_found<O: Sink, N: Sink>(
     }
 }
 
-// Says why no index was read, and returns the status that goes with it.
-fn refused<N: Sink>(notes: &mut N, fault: IndexFault) -> Status
-    ensures { SaysFault fault (change_of N.held N.faults notes.old notes.new) result }
-{
-    match fault {
-        IndexFault::BadLine(line) => ends(notes, Ending::BadLine(line)),
-        IndexFault::TooLong => ends(notes, Ending::TooLong),
-        IndexFault::Read => ends(notes, Ending::InputFault),
-        IndexFault::Memory => ends(notes, Ending::Memory),
-    }
-}
-
 // Answers the query on the index that the input gives, which has at most so many bytes.
 fn answer<I: Source, O: Sink, N: Sink>(
     alloc: Global,
     query: &Query,
-    most: usize,
+    most: u64,
     input: &mut I,
     out: &mut O,
     notes: &mut N,
@@ -60,7 +48,7 @@ fn answer<I: Source, O: Sink, N: Sink>(
 {
     match read_index_within(alloc, input, most) {
         Ok(index) => print_found(alloc, query, &index, out, notes),
-        Err(fault) => refused(notes, fault),
+        Err(fault) => ends_unread(notes, fault),
     }
 }
 
@@ -82,7 +70,7 @@ pub fn run_find<I: Source, O: Sink, N: Sink>(
         return ends(notes, Ending::Usage);
     };
     match read_query(alloc, tokens) {
-        Ok(query) => answer(alloc, &query, most as usize, input, out, notes),
+        Ok(query) => answer(alloc, &query, most, input, out, notes),
         Err(QueryFault::NotAQuery) => ends(notes, Ending::Usage),
         Err(QueryFault::Memory) => ends(notes, Ending::Memory),
     }

@@ -4,3 +4,4 @@ pub mod Prefixes
 pub mod Unfolds
 pub mod Intake
 pub mod Exact
+pub mod Long

@@ -10,6 +10,7 @@
 mod fault;
 mod intake;
 mod lines;
+mod long_intake;
 mod next_line;
 mod stop;
 mod token;
@@ -17,6 +18,7 @@ mod token;
 pub use fault::TextFault;
 pub use intake::Intake;
 pub use lines::another_line;
+pub use long_intake::LongIntake;
 pub use next_line::{NextLine, take_line};
 pub use stop::Stop;
 pub use token::{flag, long_number, number, word};

@@ -19,6 +19,6 @@ mod token;
 
 pub use answer::find;
 pub use index_table::Index;
-pub use index_text::{IndexFault, read_index};
+pub use index_text::{TextFault, read_index};
 pub use query::{Query, Step};
 pub use read::{QueryFault, read_query};

@@ -3,7 +3,7 @@ use Rattle.std.proofs.Common.{◌≡◌, ℕ, ◌+◌, ◌-◌, ◌<◌, Bool, t
 use Rattle.std.specs.Prelude.{◌&&◌}
 use Rattle.std.specs.List.{AllByRecursion}
 use Rattle.std.proofs.lemmas.Bool.{eq-eqb, ne_eqb}
-use Rattle.exact_text.specs.declared.stop.Stop as trace
+use Rattle.exact_text.specs.declared.stop.Stop as exact
 use Rattle.exact_text.specs.declared.stop.Stop.TheVariants as stops
 use Rattle.exact_text.specs.Reading.{◌>>=◌}
 use Rattle.index_text.specs.declared.fault.Stop.{Stop}
@@ -58,7 +58,7 @@ module _ (last : Option (List ℕ)) (bytes : List ℕ) (at : ℕ) where
     path_none is = path_bad last bytes at h p ten (ap (is_path last) is)
 
 -- what stops the first part stops the whole
-pub bind_stops : {X X' Y Y' : Type 0} (v : X → Y) (v' : X' → Y') (r : Result Y trace.Stop) (f : Y → Result Y' trace.Stop) (s : Stop) → Gives v (Err s) r → Gives v' (Err s) (r >>= f)
+pub bind_stops : {X X' Y Y' : Type 0} (v : X → Y) (v' : X' → Y') (r : Result Y exact.Stop) (f : Y → Result Y' exact.Stop) (s : Stop) → Gives v (Err s) r → Gives v' (Err s) (r >>= f)
 bind_stops v v' r f Memory h = tt
 bind_stops v v' r f More h = ap (λ q. q >>= f) h
 bind_stops v v' r f Dead h = ap (λ q. q >>= f) h

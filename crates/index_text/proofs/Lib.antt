@@ -8,6 +8,8 @@ pub mod PathCode
 pub mod LineCodes
 pub mod States
 pub mod Loops
+pub mod Reasons
+pub mod Stopping
 pub mod Bytes
 pub mod Keyed
 pub mod LineReads
@@ -15,7 +17,6 @@ pub mod Taken
 pub mod Ordered
 pub mod Wholes
 pub mod Printed
-mod Due
 pub mod FileWords
 pub mod ReadBack
 pub mod OneReading

@@ -11,18 +11,15 @@ use Rattle.index_text.specs.Numerals.{numeral}
 use Rattle.index_text.specs.Texts.{IsFigure, IsHit}
 use Rattle.index_text.specs.Lines.{Heading, word, skipped, key_at, figure_at, word_heading_at, heading_at, hit_from, hit_at, skipped_at}
 use Rattle.index_text.proofs.Numerals.{numeral_code}
-use Rattle.index_text.proofs.WordCode.{IsLast, IsKey, key_code}
-use Rattle.index_text.proofs.PathCode.{IsLastPath, IsNext, path_text, path_code, some_next}
+use Rattle.index_text.specs.Next.{IsLast, IsKey, IsLastPath, IsNext, IsHeading, heading_text}
+use Rattle.index_text.proofs.WordCode.{key_code}
+use Rattle.index_text.proofs.PathCode.{path_text, path_code, some_next}
 
 pub figure_code : (stop : ℕ) → stop < 48 → IsCode IsFigure (λ n. decimal n ++ stop ∷ []) (figure_at stop)
 figure_code stop low = number_code 1 (2 ^ 64) stop (omega arith) (omega arith) (omega arith) low
 
 one_figure : IsFigure 1
 one_figure = (omega arith, omega arith)
-
-abbrev pub heading_text : Heading → List ℕ
-heading_text (word w n) = w ++ codes " " ++ numeral n ++ newline
-heading_text (skipped p) = skipped_line p
 
 abbrev IsWordHeading : Option (List ℕ) → Heading → Type 0
 IsWordHeading last (word w n) = IsKey last w × (1 ≤ n)
@@ -31,10 +28,6 @@ IsWordHeading last (skipped p) = ⊥
 abbrev IsSkippedHeading : Heading → Type 0
 IsSkippedHeading (word w n) = ⊥
 IsSkippedHeading (skipped p) = IsNext None p
-
-abbrev pub IsHeading : Option (List ℕ) → Heading → Type 0
-IsHeading last (word w n) = IsKey last w × (1 ≤ n)
-IsHeading last (skipped p) = IsNext None p
 
 word_text : (w : List ℕ) (n : ℕ) → heading_text (word w n) ≡ (w ++ 32 ∷ []) ++ (numeral n ++ 10 ∷ [])
 word_text w n = append_assoc (w ++ 32 ∷ []) (numeral n) newline

@@ -1,7 +1,7 @@
 -- Lines read part by part.
 use Rattle.std.proofs.Common.{◌≡◌, ℕ, ◌^◌, List, inl, inr, refl, sym, ap, ◌∙◌, Ok, Err, Option, None}
 use Rattle.std.specs.Prelude.{codes}
-use Rattle.exact_text.specs.declared.stop.Stop as trace
+use Rattle.exact_text.specs.declared.stop.Stop as exact
 use Rattle.exact_text.specs.declared.stop.Stop.TheVariants as stops
 use Rattle.exact_text.specs.Reading.{Reader, as_value, word_at, number_at}
 use Rattle.exact_text.proofs.CodeLaws.{bind_err, bind_ok, ok_injective}
@@ -13,7 +13,7 @@ use Rattle.index_text.specs.Lines.{Heading, word, skipped, capped_line, capped_h
 use Rattle.index_text.specs.Steps.{Stops}
 
 -- a value under another form was not read: nor was it under its own
-under_err : {X Z : Type 0} (f : X → Z) (read : Reader X) (bytes : List ℕ) (s : trace.Stop) → as_value f read bytes ≡ Err s → read bytes ≡ Err s
+under_err : {X Z : Type 0} (f : X → Z) (read : Reader X) (bytes : List ℕ) (s : exact.Stop) → as_value f read bytes ≡ Err s → read bytes ≡ Err s
 under_err f read bytes s e = elim (bind_err (read bytes) _ s e) [
   | inl q ↦ q
   | inr a ↦ let h = a.2 in absurd (cc)

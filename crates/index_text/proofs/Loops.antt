@@ -1,56 +1,55 @@
 -- Line after line of an index text.
-use Rattle.std.proofs.Common.{◌≡◌, ◌⊎◌, ℕ, zero, suc, ◌+◌, ◌-◌, ◌<◌, List, [], ◌∷◌, ◌++◌, length, arith, refl, sym, ap, subst, ◌∙◌, append_assoc, append-nil, length-append, Option, Some, None, Err, slice_get, Result}
+use Rattle.std.proofs.Common.{◌≡◌, ◌⊎◌, ℕ, zero, suc, ◌+◌, ◌-◌, ◌<◌, List, [], ◌∷◌, ◌++◌, length, arith, refl, sym, ap, subst, ◌∙◌, append_assoc, length-append, Option, Some, None, slice_get, Result}
 use Rattle.std.specs.List.{flat_map}
-use Rattle.exact_text.specs.declared.stop.Stop as trace
-use Rattle.exact_text.specs.declared.stop.Stop.TheVariants as stops
+use Rattle.exact_text.specs.declared.stop.Stop.{Stop}
 use Rattle.exact_text.specs.Codes.{IsCode}
-use Rattle.exact_text.specs.Prefixes.{IsBrokenAt, IsCutShortAt}
+use Rattle.exact_text.specs.Prefixes.{Begins, IsBrokenAt, IsCutShortAt}
 use Rattle.exact_text.specs.Unfolds.{Unfolds}
-use Rattle.exact_text.proofs.Grammar.{broken, cut_short, broken_behind, cut_short_behind}
+use Rattle.exact_text.proofs.Grammar.{begins_behind, broken_behind, cut_short_behind}
 use Rattle.word_index.specs.Index.{Hit, Row}
 use Rattle.index_print.specs.Text.{hit_line, skipped_line}
 use Rattle.index_table.specs.Rows.{paths_of, words_of}
-use Rattle.index_text.specs.declared.fault.Stop.{Stop}
-use Rattle.index_text.specs.declared.fault.Stop.TheVariants.{Memory, More, Dead}
-use Rattle.index_text.specs.declared.fault.Halt.{Halt}
-use Rattle.index_text.specs.declared.fault.Halt.TheVariants as halts
 use Rattle.index_text.specs.Texts.{IsHit, AreHits, IsRow, AreRows, ArePaths, word_line, row_text}
-use Rattle.index_text.specs.Lines.{Heading, word, skipped, heading_at, hit_at, skipped_at}
-use Rattle.index_text.specs.Steps.{IsRowsText, IsHitsText, IsSkippedText, Halts, halt_of}
-use Rattle.index_text.proofs.WordCode.{IsLast}
-use Rattle.index_text.proofs.PathCode.{IsLastPath, IsNext}
-use Rattle.index_text.proofs.LineCodes.{IsHeading, heading_text, heading_code, hit_code, skipped_code}
+use Rattle.index_text.specs.Lines.{Heading, word, skipped}
+use Rattle.index_text.specs.Next.{IsLast, IsLastPath, IsNext, IsHeading, heading_text}
+use Rattle.index_text.specs.Steps.{IsRowsText, IsHitsText, IsSkippedText}
+use Rattle.index_text.proofs.LineCodes.{heading_code, hit_code, skipped_code}
 use Rattle.index_text.proofs.States.{Behind, rows_grammar, skipped_grammar, hits_grammar, rows_some, rows_back, skipped_some, skipped_back, broken_some, cut_some}
 
--- what halts the rest, halts the whole so many lines later
+-- what is broken or cut short in the rest is so in the whole, so many lines later
 pub record Reaches (T : List ℕ → Type 0) (bytes : List ℕ) (S : List ℕ → Type 0) (rest : List ℕ) (n : ℕ) : Type 0 where
   pub broken : (k : ℕ) → IsBrokenAt S rest k → IsBrokenAt T bytes (k + n)
   pub cut : (k : ℕ) → IsCutShortAt S rest k → IsCutShortAt T bytes (k + n)
+  pub prefix : Begins S rest → Begins T bytes
 
-reach_here : (T : List ℕ → Type 0) (bytes : List ℕ) → Reaches T bytes T bytes 0
+pub reach_here : (T : List ℕ → Type 0) (bytes : List ℕ) → Reaches T bytes T bytes 0
 reach_here T bytes = record {
   broken = λ k b. let e : k ≡ k + 0 = omega arith in subst (IsBrokenAt T bytes) e b;
   cut = λ k b. let e : k ≡ k + 0 = omega arith in subst (IsCutShortAt T bytes) e b;
+  prefix = λ b. b;
 }
 
 pub reach_then : {T S R : List ℕ → Type 0} {a b c : List ℕ} {n m : ℕ} (l : ℕ) → l ≡ n + m → Reaches T a S b n → Reaches S b R c m → Reaches T a R c l
 reach_then {T} {S} {R} {a} {b} {c} {n} {m} l e p q = record {
   broken = λ k x. let s : k + m + n ≡ k + l = omega (arith, e) in subst (IsBrokenAt T a) s (p.broken (k + m) (q.broken k x));
   cut = λ k x. let s : k + m + n ≡ k + l = omega (arith, e) in subst (IsCutShortAt T a) s (p.cut (k + m) (q.cut k x));
+  prefix = λ b. p.prefix (q.prefix b);
 }
 
-reach_line : {X : Type 0} {Text : List ℕ → Type 0} {lawful : X → Type 0} {text : X → List ℕ} {Next : X → List ℕ → Type 0} {read : List ℕ → Result (X × List ℕ) trace.Stop} → Unfolds Text lawful text Next → IsCode lawful text read
+reach_line : {X : Type 0} {Text : List ℕ → Type 0} {lawful : X → Type 0} {text : X → List ℕ} {Next : X → List ℕ → Type 0} {read : List ℕ → Result (X × List ℕ) Stop} → Unfolds Text lawful text Next → IsCode lawful text read
     → (x : X) → lawful x → (rest : List ℕ) → Reaches Text (text x ++ rest) (Next x) rest 1
 reach_line grammar code x l rest = record {
   broken = λ k b. broken_behind grammar code x l rest k b;
   cut = λ k b. cut_short_behind grammar code x l rest k b;
+  prefix = λ b. begins_behind grammar code x l rest b;
 }
 
-reach_some : {S T : List ℕ → Type 0} → ((bytes : List ℕ) → T bytes → (bytes ≡ []) ⊎ S bytes) → ((bytes : List ℕ) → S bytes → T bytes) → (bytes : List ℕ) → 0 < length bytes → Reaches T bytes S bytes 0
+pub reach_some : {S T : List ℕ → Type 0} → ((bytes : List ℕ) → T bytes → (bytes ≡ []) ⊎ S bytes) → ((bytes : List ℕ) → S bytes → T bytes) → (bytes : List ℕ) → 0 < length bytes → Reaches T bytes S bytes 0
 reach_some some back [] h = absurd (omega (arith, h))
 reach_some {S} {T} some back (c ∷ input) h = record {
   broken = λ k b. let e : k ≡ k + 0 = omega arith in subst (IsBrokenAt T (c ∷ input)) e (broken_some some back c input k b);
   cut = λ k b. let e : k ≡ k + 0 = omega arith in subst (IsCutShortAt T (c ∷ input)) e (cut_some some back c input k b);
+  prefix = λ b. (b.0, back _ b.1);
 }
 
 -- the same texts, said in another way
@@ -58,6 +57,7 @@ pub reach_same : {S T : List ℕ → Type 0} → ((bytes : List ℕ) → T bytes
 reach_same {S} {T} to from bytes = record {
   broken = λ k b. let e : k ≡ k + 0 = omega arith in subst (IsBrokenAt T bytes) e (record { counted = b.counted; before = (b.before.0, from _ b.before.1); broken = λ t. b.broken (t.0, to _ t.1) });
   cut = λ k b. let e : k ≡ k + 0 = omega arith in subst (IsCutShortAt T bytes) e (record { prefix = (b.prefix.0, from _ b.prefix.1); no_text = λ t. b.no_text (to _ t); last = b.last });
+  prefix = λ b. (b.0, from _ b.1);
 }
 
 -- the last path of some hits, and so on
@@ -190,37 +190,3 @@ reach_rows last (r ∷ rs) ok are rest =
     let tail = flat_map row_text rs ++ rest in
     let both = reach_then (lines_of (r ∷ rs)) refl (reach_row last r ok are.0 tail) (reach_rows (Some r.word) rs are.0.word are.1 rest) in
     subst (λ b. Reaches (IsRowsText last) b (IsRowsText (end_word (Some r.word) rs)) rest (lines_of (r ∷ rs))) (sym (append_assoc (row_text r) (flat_map row_text rs) rest)) both
-
--- a halt in the rest is one of the whole
-pub behind_halt : {T S : List ℕ → Type 0} {bytes rest : List ℕ} {n : ℕ} → Reaches T bytes S rest n → (lines line : ℕ) → line ≡ lines + n → (halt : Halt) → Halts S line rest halt → Halts T lines bytes halt
-behind_halt r lines line e halts.Memory h = tt
-behind_halt {T} {S} {bytes} {rest} {n} r lines line e (halts.Cut k) h =
-    let s : k - line + n ≡ k - lines = omega (arith, e, h.0) in (omega (arith, e, h.0), subst (IsCutShortAt T bytes) s (r.cut (k - line) h.1))
-behind_halt {T} {S} {bytes} {rest} {n} r lines line e (halts.Bad k) h =
-    let s : k - line + n ≡ k - lines = omega (arith, e, h.0) in (omega (arith, e, h.0), subst (IsBrokenAt T bytes) s (r.broken (k - line) h.1))
-
--- why no line was read
-abbrev pub StopsAt : {X : Type 0} → (List ℕ → Result (X × List ℕ) trace.Stop) → List ℕ → Stop → Type 0
-StopsAt read bytes Memory = Unit {0}
-StopsAt read bytes More = read bytes ≡ Err stops.More
-StopsAt read bytes Dead = read bytes ≡ Err stops.Dead
-
-line_halt : {X : Type 0} {Text : List ℕ → Type 0} {lawful : X → Type 0} {text : X → List ℕ} {Next : X → List ℕ → Type 0} {read : List ℕ → Result (X × List ℕ) trace.Stop} → Unfolds Text lawful text Next → IsCode lawful text read
-    → (bytes : List ℕ) (stop : Stop) → StopsAt read bytes stop → (line : ℕ) → Halts Text line bytes (halt_of stop (line + 1))
-line_halt grammar code bytes Memory h line = tt
-line_halt {X} {Text} grammar code bytes More h line = let one : 1 ≡ line + 1 - line = omega arith in (omega arith, subst (IsCutShortAt Text bytes) one (cut_short grammar code bytes h))
-line_halt {X} {Text} grammar code bytes Dead h line =
-    let one : 1 ≡ line + 1 - line = omega arith in
-    (omega arith, subst (IsBrokenAt Text bytes) one (subst (λ b. IsBrokenAt Text b 1) (append-nil bytes) (broken grammar code bytes [] h)))
-
-pub hits_halt : (w : List ℕ) (last : Option (List ℕ)) (n : ℕ) → IsLastPath last → 0 < n → (bytes : List ℕ) (stop : Stop) → StopsAt (hit_at last) bytes stop → (line : ℕ) → Halts (IsHitsText w n last) line bytes (halt_of stop (line + 1))
-hits_halt w last zero ok some bytes stop h line = absurd (omega (arith, some))
-hits_halt w last (suc n) ok some bytes stop h line = line_halt (hits_grammar w n last ok) (hit_code last ok) bytes stop h line
-
-pub paths_halt : (last : Option (List ℕ)) → IsLastPath last → (bytes : List ℕ) → 0 < length bytes → (stop : Stop) → StopsAt (skipped_at last) bytes stop → (line : ℕ) → Halts (IsSkippedText last) line bytes (halt_of stop (line + 1))
-paths_halt last ok bytes some stop h line =
-    behind_halt (reach_some (skipped_some last) (skipped_back last) bytes some) line line (omega arith) (halt_of stop (line + 1)) (line_halt (skipped_grammar last ok) (skipped_code last ok) bytes stop h line)
-
-pub rows_halt : (last : Option (List ℕ)) → IsLast last → (bytes : List ℕ) → 0 < length bytes → (stop : Stop) → StopsAt (heading_at last) bytes stop → (line : ℕ) → Halts (IsRowsText last) line bytes (halt_of stop (line + 1))
-rows_halt last ok bytes some stop h line =
-    behind_halt (reach_some (rows_some last) (rows_back last) bytes some) line line (omega arith) (halt_of stop (line + 1)) (line_halt (rows_grammar last) (heading_code last ok) bytes stop h line)

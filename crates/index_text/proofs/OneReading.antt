@@ -8,9 +8,8 @@ use Rattle.word_index.specs.Index.{Hit, Row}
 use Rattle.index_print.specs.Text.{hit_line, skipped_line}
 use Rattle.index_text.specs.Texts.{AreHits, AreRows, ArePaths, ReadsAs, word_line, row_text, text_of}
 use Rattle.index_text.specs.Lines.{word, skipped}
-use Rattle.index_text.proofs.WordCode.{IsLast}
-use Rattle.index_text.proofs.PathCode.{IsLastPath}
-use Rattle.index_text.proofs.LineCodes.{heading_text, heading_code, hit_code, skipped_code}
+use Rattle.index_text.specs.Next.{IsLast, IsLastPath, heading_text}
+use Rattle.index_text.proofs.LineCodes.{heading_code, hit_code, skipped_code}
 
 -- bytes begin with one value's text, and the rest of them is one
 read_same : {X : Type 0} {lawful : X → Type 0} {text : X → List ℕ} {read : List ℕ → Result (X × List ℕ) Stop} → IsCode lawful text read

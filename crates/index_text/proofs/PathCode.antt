@@ -14,19 +14,12 @@ use Rattle.text_output.specs.Paths.{escaped, newline}
 use Rattle.word_index.specs.Index.{IsBelow}
 use Rattle.index_text.specs.Texts.{IsPath, IsAbove}
 use Rattle.index_text.specs.Lines.{unescaped, put, path_of, prefix_of, plain, is_no_newline, is_above, is_path, is_path_prefix, may_be_path, begins_last, path_at}
+use Rattle.index_text.specs.Next.{IsLastPath, IsNext}
 use Rattle.index_text.proofs.Orders.{below_cons, below_first, below_prefix, below_cancel, below_longer, below_more, below_or_prefix, prefix_rest}
 use Rattle.index_text.proofs.Tokens.{token_code, both_true}
 use Rattle.index_text.proofs.WordCode.{above_is, is_above-from, either_true, or_left, or_right}
 use Rattle.index_text.proofs.Escaping.{before, GoesOn, Fails, goes, unescapes, escaped_back, escaped_passes}
 use Rattle.index_text.proofs.Utf8.{IsTried, none, letter, one, two, three, after_e0, after_f0, prefix_completes}
-
--- the last path, if there is one, is a path
-abbrev pub IsLastPath : Option (List ℕ) → Type 0
-IsLastPath None = Unit {0}
-IsLastPath (Some last) = IsPath last
-
-abbrev pub IsNext : Option (List ℕ) → List ℕ → Type 0
-IsNext last p = IsPath p × IsAbove last p
 
 pub next_facts : (last : Option (List ℕ)) (p : List ℕ) → is_path last (Some p) ≡ true → IsNext last p
 next_facts last p h =

@@ -17,8 +17,8 @@ use Rattle.index_text.specs.Steps.{IsRowsText, IsHitsText, IsSkippedText}
 use Rattle.index_text.proofs.Numerals.{numeral_by_steps}
 use Rattle.index_text.proofs.Escaping.{escaped_passes, flat_passes}
 use Rattle.index_text.proofs.WordCode.{Keys, low_key}
-use Rattle.index_text.proofs.PathCode.{IsLastPath, IsNext, some_next}
-use Rattle.index_text.proofs.LineCodes.{IsHeading, heading_text}
+use Rattle.index_text.specs.Next.{IsLastPath, IsNext, IsHeading, heading_text}
+use Rattle.index_text.proofs.PathCode.{some_next}
 
 -- lines have a newline at their end, and nowhere else
 flat_decimal : (n : ℕ) → n < 2 ^ 64 → IsFlat (decimal n)

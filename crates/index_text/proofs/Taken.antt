@@ -1,316 +1,313 @@
 -- What was taken so far.
-use Rattle.std.proofs.Common.{◌≡◌, ℕ, ◌+◌, ◌-◌, ◌^◌, ◌<◌, ◌≤◌, List, [], ◌∷◌, ◌++◌, length, arith, refl, sym, ap, subst, ◌∙◌, append_assoc, append-nil, length-append, Option, Some, None, Ok, Err, slice_get, Result}
+use Rattle.std.proofs.Common.{◌≡◌, ℕ, suc, ◌+◌, ◌-◌, ◌^◌, ◌<◌, ◌≤◌, List, [], ◌∷◌, ◌++◌, length, arith, refl, sym, ap, subst, ◌∙◌, append_assoc, append-nil, length-append, Option, Some, None, Ok, Err, slice_get, Result, true, false}
+use Rattle.std.specs.Prelude.{codes}
 use Rattle.std.specs.List.{flat_map}
-use Rattle.std.specs.Borrow.{Bor}
 use Rattle.std.proofs.lemmas.List.{length_push}
 use Rattle.std.proofs.lemmas.List.Concat.{flat_map-append}
+use Rattle.exact_text.specs.declared.intake.Intake.{Intake}
+use Rattle.exact_text.specs.declared.fault.TextFault.{TextFault}
+use Rattle.exact_text.specs.Exact.{IsStuck, OrMemory}
+use Rattle.exact_text.specs.Intake.{rest_of, room_of}
+use Rattle.exact_text.specs.Long.{IsLongAsked}
+use Rattle.text_output.specs.Paths.{newline}
 use Rattle.word_index.specs.Index.{Hit, Row}
 use Rattle.index_print.specs.Text.{hit_line, skipped_line}
 use Rattle.index_table.specs.Rows.{Drafted, paths_of}
-use Rattle.index_text.specs.declared.fault.Stop.{Stop}
-use Rattle.index_text.specs.declared.fault.Stop.TheVariants.{Memory, More, Dead}
-use Rattle.index_text.specs.declared.fault.Halt.{Halt}
+use Rattle.index_text.specs.declared.lines.Prefix.{Prefix}
+use Rattle.index_text.specs.declared.lines.Prefix.TheVariants as prefixes
 use Rattle.index_text.specs.Numerals.{numeral, capped}
-use Rattle.index_text.specs.Texts.{AreHits, AreRows, ArePaths, IsAbove, word_line, row_text}
+use Rattle.index_text.specs.Texts.{IsHit, IsAbove, AreHits, AreRows, ArePaths, word_line, row_text, text_of}
 use Rattle.index_text.specs.Lines.{Heading, word, skipped, heading_at, hit_at, skipped_at}
-use Rattle.index_text.specs.Steps.{IsRowsText, IsHitsText, IsSkippedText, Halts, halt_of, Stops, TakesHit, TakesSkipped, TakesPaths, TakesRow, TakesRows, last_word, last_skipped}
-use Rattle.std.specs.Prelude.{codes}
-use Rattle.text_output.specs.Paths.{newline}
-use Rattle.index_text.proofs.States.{Behind}
-use Rattle.index_text.proofs.WordCode.{IsLast}
-use Rattle.index_text.proofs.PathCode.{IsLastPath}
-use Rattle.index_text.proofs.LineCodes.{IsHeading, heading_text, heading_code, hit_code, skipped_code}
-use Rattle.index_text.proofs.Loops.{Reaches, StopsAt, reach_then, reach_heading, end_path, end_of, end_of_is, end_path_is, end_word_is, hits_push, paths_push, rows_push, path_stays, end_stays, word_stays, reach_hits, reach_paths, reach_rows, behind_halt, hits_halt, paths_halt, rows_halt, lines_of, lines_push}
+use Rattle.index_text.specs.Next.{IsLast, IsLastPath, IsNext, IsHeading, heading_text, IsTaken, TakesLine, SaysHeading, SaysHit, SaysPath}
+use Rattle.index_text.specs.Steps.{IsRowsText, IsHitsText, IsSkippedText, last_path, last_word, last_skipped}
+use Rattle.index_text.specs.Takes.{Lacks, IsAll, TakesHit, TakesSkipped, TakesPaths, TakesRow, TakesRows}
+use Rattle.index_text.proofs.LineCodes.{heading_code, hit_code, skipped_code}
+use Rattle.index_text.proofs.States.{Behind, rows_grammar, skipped_grammar, hits_grammar, rows_some, rows_back, skipped_some, skipped_back}
+use Rattle.index_text.proofs.Loops.{Reaches, reach_then, reach_heading, end_path, end_of, end_of_is, end_path_is, end_word_is, hits_push, paths_push, rows_push, path_stays, end_stays, word_stays, reach_hits, reach_paths, reach_rows, lines_of, lines_push}
+use Rattle.index_text.proofs.Reasons.{taken_none, taken_then, taken_asked, taken_all, all_behind, lacks_behind, lacks_line, lacks_first, lacks_asked}
 
-lines_append : {X : Type 0} (f : X → List ℕ) (xs : List X) (x : X) (rest : List ℕ) → flat_map f (xs ++ x ∷ []) ++ rest ≡ flat_map f xs ++ (f x ++ rest)
-lines_append f xs x rest =
-    ap (λ l. l ++ rest) (flat_map-append f xs (x ∷ []) ∙ ap (λ l. flat_map f xs ++ l) (append-nil (f x))) ∙ append_assoc (flat_map f xs) (f x) rest
+lines_append : {X : Type 0} (f : X → List ℕ) (xs : List X) (x : X) → flat_map f xs ++ f x ≡ flat_map f (xs ++ x ∷ [])
+lines_append f xs x = sym (flat_map-append f xs (x ∷ []) ∙ ap (λ l. flat_map f xs ++ l) (append-nil (f x)))
+
+-- the line of a file, with the path that was laid down
+pub hit_taken : (last : Option (List ℕ)) (was is : Drafted) (old new : Intake) (left left' : Option (List ℕ)) (before since : ℕ) (laid : List ℕ) (figures : ℕ × ℕ) → last ≡ last_path was
+    → TakesLine (IsHit last) hit_line (hit_at last) (SaysHit laid) old new left left' before since (Ok figures) → is ≡ record was { hits = was.hits ++ record { path = laid; count = figures.0; line = figures.1 } ∷ [] }
+    → TakesHit was is old new left left' before since (Ok tt)
+hit_taken last was is old new left left' before since laid figures same h e = (h.0, subst (λ l. IsHit l h.0) same h.2, h.3, e ∙ ap (λ (x : Hit). record was { hits = was.hits ++ x ∷ [] }) (sym h.1))
+
+pub hit_stuck : (last : Option (List ℕ)) (was is : Drafted) (old new : Intake) (left left' : Option (List ℕ)) (before since : ℕ) (laid : List ℕ) (f : TextFault) → last ≡ last_path was
+    → TakesLine (IsHit last) hit_line (hit_at last) (SaysHit laid) old new left left' before since (Err f) → TakesHit was is old new left left' before since (Err f)
+hit_stuck last was is old new left left' before since laid f same h =
+    subst (λ l. OrMemory (IsStuck (hit_at l) old.lines (room_of old) (rest_of old left) left' before since) f) same h
+
+-- that of a skipped path
+pub skip_taken : (last : Option (List ℕ)) (was is : Drafted) (old new : Intake) (left left' : Option (List ℕ)) (before since : ℕ) (laid : List ℕ) → last ≡ last_skipped was
+    → TakesLine (IsNext last) skipped_line (skipped_at last) (SaysPath laid) old new left left' before since (Ok tt) → is ≡ record was { skipped = was.skipped ++ laid ∷ [] } → TakesSkipped was is old new left left' before since (Ok tt)
+skip_taken last was is old new left left' before since laid same h e = (h.0, subst (λ l. IsNext l h.0) same h.2, h.3, e ∙ ap (λ (x : List ℕ). record was { skipped = was.skipped ++ x ∷ [] }) (sym h.1))
+
+pub skip_stuck : (last : Option (List ℕ)) (was is : Drafted) (old new : Intake) (left left' : Option (List ℕ)) (before since : ℕ) (laid : List ℕ) (f : TextFault) → last ≡ last_skipped was
+    → TakesLine (IsNext last) skipped_line (skipped_at last) (SaysPath laid) old new left left' before since (Err f) → TakesSkipped was is old new left left' before since (Err f)
+skip_stuck last was is old new left left' before since laid f same h =
+    subst (λ l. OrMemory (IsStuck (skipped_at l) old.lines (room_of old) (rest_of old left) left' before since) f) same h
+
+-- the last path of a row under way
+pub last_hit_is : (d : Drafted) → AreHits None d.hits → IsLastPath (last_path d)
+last_hit_is d are = subst IsLastPath (end_path_is d.hits) (path_stays None d.hits tt are)
+
+pub skipped_long : (p : List ℕ) → 0 < length (skipped_line p)
+skipped_long p = simp length-append (omega arith)
 
 -- some hits of a row
-pub record TakenHits (bytes : List ℕ) (many lines : ℕ) (old now : Drafted) (left line : ℕ) (rest : List ℕ) : Type 0 where
+pub record TakenHits (many : ℕ) (start : Intake) (first : Option (List ℕ)) (old now : Drafted) (intake : Intake) (here : Option (List ℕ)) (left : ℕ) : Type 0 where
   pub are : AreHits None now.hits
   pub kept : now ≡ record old { hits = now.hits }
   pub count : many ≡ length now.hits + left
-  pub text : bytes ≡ flat_map hit_line now.hits ++ rest
-  pub lined : line ≡ lines + length now.hits
-  pub room : length now.hits + length rest ≤ length bytes
+  pub taken : IsTaken (flat_map hit_line now.hits) (length now.hits) start intake first here
 
-pub hits_begin : (bytes : List ℕ) (many lines : ℕ) (old : Drafted) → old.hits ≡ [] → TakenHits bytes many lines old old many lines bytes
-hits_begin bytes many lines old none = record {
+pub hits_begin : (many : ℕ) (start : Intake) (first : Option (List ℕ)) (old : Drafted) → old.hits ≡ [] → TakenHits many start first old old start first many
+hits_begin many start first old none = record {
   are = subst (AreHits None) (sym none) tt;
   kept = refl;
   count = omega (arith, ap length none);
-  text = ap (λ l. flat_map hit_line l ++ bytes) (sym none);
-  lined = omega (arith, ap length none);
-  room = omega (arith, ap length none);
+  taken = taken_none start first (flat_map hit_line old.hits) (length old.hits) (ap (flat_map hit_line) none) (ap length none);
 }
 
-pub record IsHitRead (hs : List Hit) (h : Hit) (rest after : List ℕ) : Type 0 where
-  pub are : AreHits None (hs ++ h ∷ [])
-  pub is : rest ≡ hit_line h ++ after
-  pub shorter : length after + 1 ≤ length rest
-
-pub hit_taken : (hs : List Hit) (h : Hit) (rest after : List ℕ) → AreHits None hs → hit_at (slice_get (paths_of hs) (length hs - 1)) rest ≡ Ok (h, after) → IsHitRead hs h rest after
-hit_taken hs h rest after are e =
-    let last = end_path None hs in
-    let f = (hit_code last (path_stays None hs tt are)).found rest after h (ap (λ l. hit_at l rest) (end_path_is hs) ∙ e) in
-    record { are = hits_push None hs h are f.0; is = f.1; shorter = omega (arith, ap length f.1, length-append (hit_line h) after, hit_long h) }
-  where
-    hit_long : (h : Hit) → 1 ≤ length (hit_line h)
-    hit_long h = simp length-append (omega arith)
-
-pub hits_next : {bytes : List ℕ} {many lines : ℕ} {old now : Drafted} {left line : ℕ} {rest : List ℕ} → TakenHits bytes many lines old now left line rest
-    → (new : Drafted) (after : Bor (List ℕ)) → TakesHit now new rest (Ok after) → 0 < left → TakenHits bytes many lines old new (left - 1) (line + 1) after.now
-hits_next {bytes} {many} {lines} {old} {now} {left} {line} {rest} t new after h some =
-    let r = hit_taken now.hits h.0 rest after.now t.are h.1 in
-    let hits : new.hits ≡ now.hits ++ h.0 ∷ [] = ap (λ (d : Drafted). d.hits) h.2 in
+pub hits_next : {many : ℕ} {start : Intake} {first : Option (List ℕ)} {old now : Drafted} {intake : Intake} {here : Option (List ℕ)} {left : ℕ} → TakenHits many start first old now intake here left
+    → (new : Drafted) (after : Intake) (there : Option (List ℕ)) (before since : ℕ) → TakesHit now new intake after here there before since (Ok tt) → 0 < left → TakenHits many start first old new after there (left - 1)
+hits_next {many} {start} {first} {old} {now} {intake} {here} {left} t new after there before since h some =
+    let hits : new.hits ≡ now.hits ++ h.0 ∷ [] = ap (λ (d : Drafted). d.hits) h.3 in
     let long : length new.hits ≡ length now.hits + 1 = ap length hits ∙ length_push now.hits h.0 in
     record {
-      are = subst (AreHits None) (sym hits) r.are;
-      kept = h.2 ∙ (λ i. record (t.kept i) { hits = now.hits ++ h.0 ∷ [] }) ∙ ap (λ l. record old { hits = l }) (sym hits);
+      are = subst (AreHits None) (sym hits) (hits_push None now.hits h.0 t.are (subst (λ l. IsHit l h.0) (sym (end_path_is now.hits)) h.1));
+      kept = h.3 ∙ (λ i. record (t.kept i) { hits = now.hits ++ h.0 ∷ [] }) ∙ ap (λ l. record old { hits = l }) (sym hits);
       count = omega (arith, t.count, long, some);
-      text = t.text ∙ ap (λ l. flat_map hit_line now.hits ++ l) r.is ∙ sym (lines_append hit_line now.hits h.0 after.now) ∙ ap (λ l. flat_map hit_line l ++ after.now) (sym hits);
-      lined = omega (arith, t.lined, long);
-      room = omega (arith, t.room, long, r.shorter);
+      taken = taken_then t.taken h.2 (flat_map hit_line new.hits) (length new.hits) (lines_append hit_line now.hits h.0 ∙ ap (flat_map hit_line) (sym hits)) (sym long);
     }
 
 -- so many hits as a counter can't count have no room in the bytes
-pub row_end : {bytes : List ℕ} {many lines : ℕ} {old now : Drafted} {left line : ℕ} {rest : List ℕ} → TakenHits bytes many lines old now left line rest
-    → (w : List ℕ) (new : Drafted) (r : Bor (List ℕ)) → new ≡ record { rows = now.rows ++ record { word = w; hits = now.hits } ∷ []; hits = []; skipped = now.skipped }
-    → r.now ≡ rest → left ≡ 0 → length bytes + 1 < 2 ^ 64 → (n : ℕ) → many ≡ capped n → TakesRow w n lines old new bytes (Ok r)
-row_end {bytes} {many} {lines} {old} {now} t w new r is e none short n c = (
-  now.hits,
-  omega (arith, t.count, none, t.room, short, c),
-  t.are,
-  t.text ∙ ap (λ l. flat_map hit_line now.hits ++ l) (sym e),
-  is ∙ ap (λ (d : Drafted). record { rows = d.rows ++ record { word = w; hits = d.hits } ∷ []; hits = []; skipped = d.skipped }) t.kept,
-)
+pub row_end : {many : ℕ} {start : Intake} {first : Option (List ℕ)} {old now : Drafted} {intake : Intake} {here : Option (List ℕ)} {left : ℕ} → TakenHits many start first old now intake here left
+    → (w : List ℕ) (new : Drafted) → new ≡ record { rows = now.rows ++ record { word = w; hits = now.hits } ∷ []; hits = []; skipped = now.skipped }
+    → left ≡ 0 → (n : ℕ) → many ≡ capped n → (before since : ℕ) → TakesRow w n old new start intake first here before since (Ok tt)
+row_end {many} {start} {first} {old} {now} {intake} {here} t w new is none n c before since =
+    let counted : length now.hits ≡ n = omega (arith, t.count, none, t.taken.lines, intake.read, intake.within, intake.below, c) in (
+      now.hits,
+      counted,
+      t.are,
+      subst (λ m. IsTaken (flat_map hit_line now.hits) m start intake first here) counted t.taken,
+      is ∙ ap (λ (d : Drafted). record { rows = d.rows ++ record { word = w; hits = d.hits } ∷ []; hits = []; skipped = d.skipped }) t.kept,
+    )
 
-pub hits_stop : {bytes : List ℕ} {many lines : ℕ} {old now : Drafted} {left line : ℕ} {rest : List ℕ} → TakenHits bytes many lines old now left line rest
-    → (w : List ℕ) (new last : Drafted) (stop : Stop) → TakesHit now new rest (Err stop) → 0 < left → (n : ℕ) → many ≡ capped n → TakesRow w n lines old last bytes (Err (halt_of stop (line + 1)))
-hits_stop {bytes} {many} {lines} {old} {now} {left} {line} {rest} t w new last stop h some n c =
-    let e = end_path_is now.hits in
+pub hits_stop : {many : ℕ} {start : Intake} {first : Option (List ℕ)} {old now : Drafted} {intake : Intake} {here : Option (List ℕ)} {left : ℕ} → TakenHits many start first old now intake here left
+    → (w : List ℕ) (there : Option (List ℕ)) (begin before since : ℕ) (f : TextFault) → OrMemory (IsStuck (hit_at (last_path now)) intake.lines (room_of intake) (rest_of intake here) there before since) f
+    → before ≡ begin → 0 < left → (n : ℕ) → many ≡ capped n → Lacks (IsHitsText w n None) start first there begin since f
+hits_stop {many} {start} {first} {old} {now} {intake} {here} {left} t w there begin before since f h same some n c =
     let end = end_path None now.hits in
-    let more = n - length now.hits in
-    let reach = reach_hits w None now.hits tt t.are more rest n (omega (arith, t.count, some, c)) in
-    let here = hits_halt w end more (path_stays None now.hits tt t.are) (omega (arith, t.count, some, c)) rest stop (stops stop (subst (λ l. Stops (hit_at l rest) stop) (sym e) h)) line in
-    subst (λ b. Halts (IsHitsText w n None) lines b (halt_of stop (line + 1))) (sym t.text) (behind_halt reach lines line t.lined (halt_of stop (line + 1)) here)
-  where
-    stops : (s : Stop) → Stops (hit_at (end_path None now.hits) rest) s → StopsAt (hit_at (end_path None now.hits)) rest s
-    stops Memory h = tt
-    stops More h = h
-    stops Dead h = h
+    let ok : IsLastPath end = path_stays None now.hits tt t.are in
+    let k = n - length now.hits - 1 in
+    let all : n ≡ length now.hits + suc k = omega (arith, t.count, some, c) in
+    let stuck = subst (λ l. OrMemory (IsStuck (hit_at l) intake.lines (room_of intake) (rest_of intake here) there before since) f) (sym (end_path_is now.hits)) h in
+    let line = lacks_line (hits_grammar w k end ok) (hit_code end ok) (rest_of intake here) there intake.lines (room_of intake) before since f stuck in
+    lacks_behind t.taken (λ rest. reach_hits w None now.hits tt t.are (suc k) rest n all) there begin before since f same line
 
 end_of_append : (last : Option (List ℕ)) (ps qs : List (List ℕ)) → end_of last (ps ++ qs) ≡ end_of (end_of last ps) qs
 end_of_append last [] qs = refl
 end_of_append last (p ∷ ps) qs = end_of_append (Some p) ps qs
 
 -- some skipped paths
-pub record TakenPaths (bytes : List ℕ) (lines : ℕ) (old now : Drafted) (line : ℕ) (rest : List ℕ) : Type 0 where
+pub record TakenPaths (start : Intake) (first : Option (List ℕ)) (old now : Drafted) (intake : Intake) (here : Option (List ℕ)) : Type 0 where
   pub paths : List (List ℕ)
   pub are : ArePaths (last_skipped old) paths
   pub kept : now ≡ record old { skipped = old.skipped ++ paths }
-  pub text : bytes ≡ flat_map skipped_line paths ++ rest
-  pub lined : line ≡ lines + length paths
-  pub room : length paths + length rest ≤ length bytes
+  pub taken : IsTaken (flat_map skipped_line paths) (length paths) start intake first here
 
-pub paths_begin : (bytes : List ℕ) (lines : ℕ) (old : Drafted) → TakenPaths bytes lines old old lines bytes
-paths_begin bytes lines old = record {
+pub paths_begin : (start : Intake) (first : Option (List ℕ)) (old : Drafted) → TakenPaths start first old old start first
+paths_begin start first old = record {
   paths = [];
   are = tt;
   kept = ap (λ l. record old { skipped = l }) (sym (append-nil old.skipped));
-  text = refl;
-  lined = omega arith;
-  room = omega arith;
+  taken = taken_none start first [] 0 refl refl;
 }
 
-last_is : (old : Drafted) → ArePaths None old.skipped → IsLastPath (last_skipped old)
+pub last_is : (old : Drafted) → ArePaths None old.skipped → IsLastPath (last_skipped old)
 last_is old are = subst IsLastPath (end_of_is old.skipped) (end_stays None old.skipped tt are)
 
 last_now : (old now : Drafted) (paths : List (List ℕ)) → now ≡ record old { skipped = old.skipped ++ paths } → last_skipped now ≡ end_of (last_skipped old) paths
 last_now old now paths kept =
     ap last_skipped kept ∙ sym (end_of_is (old.skipped ++ paths)) ∙ end_of_append None old.skipped paths ∙ ap (λ l. end_of l paths) (end_of_is old.skipped)
 
-pub paths_next : {bytes : List ℕ} {lines : ℕ} {old now : Drafted} {line : ℕ} {rest : List ℕ} → ArePaths None old.skipped → TakenPaths bytes lines old now line rest
-    → (new : Drafted) (after : Bor (List ℕ)) → TakesSkipped now new rest (Ok after) → TakenPaths bytes lines old new (line + 1) after.now
-paths_next {bytes} {lines} {old} {now} {line} {rest} before t new after h =
-    let last = end_of (last_skipped old) t.paths in
-    let f = (skipped_code last (end_stays (last_skipped old) t.paths (last_is old before) t.are)).found rest after.now h.0 (ap (λ l. skipped_at l rest) (sym (last_now old now t.paths t.kept)) ∙ h.1) in
-    let ps = t.paths ++ h.0 ∷ [] in
-    let long = length_push t.paths h.0 in
-    let whole : now.skipped ++ h.0 ∷ [] ≡ old.skipped ++ ps = ap (λ (d : Drafted). d.skipped ++ h.0 ∷ []) t.kept ∙ append_assoc old.skipped t.paths (h.0 ∷ []) in
-    record {
-      paths = ps;
-      are = paths_push (last_skipped old) t.paths h.0 t.are f.0;
-      kept = h.2 ∙ (λ i. record (t.kept i) { skipped = whole i });
-      text = t.text ∙ ap (λ l. flat_map skipped_line t.paths ++ l) f.1 ∙ sym (lines_append skipped_line t.paths h.0 after.now);
-      lined = omega (arith, t.lined, long);
-      room = omega (arith, t.room, long, ap length f.1, length-append (skipped_line h.0) after.now, skipped_long h.0);
-    }
-  where
-    skipped_long : (p : List ℕ) → 1 ≤ length (skipped_line p)
-    skipped_long p = simp length-append (omega arith)
+paths_join : (last : Option (List ℕ)) (ps qs : List (List ℕ)) → ArePaths last ps → ArePaths (end_of last ps) qs → ArePaths last (ps ++ qs)
+paths_join last [] qs a b = b
+paths_join last (p ∷ ps) qs a b = (a.0, paths_join (Some p) ps qs a.1 b)
 
-pub nothing_left : (xs : List ℕ) → length xs ≡ 0 → xs ≡ []
-nothing_left [] h = refl
-nothing_left (x ∷ xs) h = absurd (omega (arith, h))
+module _ {start : Intake} {first : Option (List ℕ)} {old now : Drafted} {intake : Intake} {here : Option (List ℕ)} (before : ArePaths None old.skipped) (t : TakenPaths start first old now intake here) where
+  -- all that are skipped rise
+  pub paths_rise : ArePaths None now.skipped
+  paths_rise =
+      subst (ArePaths None) (sym (ap (λ (d : Drafted). d.skipped) t.kept)) (paths_join None old.skipped t.paths before (subst (λ l. ArePaths l t.paths) (sym (end_of_is old.skipped)) t.are))
 
-pub paths_end : {bytes : List ℕ} {lines : ℕ} {old now : Drafted} {line : ℕ} {rest : List ℕ} → TakenPaths bytes lines old now line rest → length rest ≡ 0 → TakesPaths lines old now bytes (Ok tt)
-paths_end {bytes} {lines} {old} {now} {line} {rest} t none = (t.paths, t.are, t.text ∙ ap (λ l. flat_map skipped_line t.paths ++ l) (nothing_left rest none) ∙ append-nil (flat_map skipped_line t.paths), t.kept)
+  paths_reach : (rest : List ℕ) → Reaches (IsSkippedText (last_skipped old)) (flat_map skipped_line t.paths ++ rest) (IsSkippedText (last_skipped now)) rest (length t.paths)
+  paths_reach rest =
+      subst (λ l. Reaches (IsSkippedText (last_skipped old)) (flat_map skipped_line t.paths ++ rest) (IsSkippedText l) rest (length t.paths)) (sym (last_now old now t.paths t.kept))
+      (reach_paths (last_skipped old) t.paths (last_is old before) t.are rest)
 
-pub paths_stop : {bytes : List ℕ} {lines : ℕ} {old now : Drafted} {line : ℕ} {rest : List ℕ} → ArePaths None old.skipped → TakenPaths bytes lines old now line rest
-    → (new last : Drafted) (stop : Stop) → TakesSkipped now new rest (Err stop) → 0 < length rest → TakesPaths lines old last bytes (Err (halt_of stop (line + 1)))
-paths_stop {bytes} {lines} {old} {now} {line} {rest} before t new last stop h some =
-    let end = end_of (last_skipped old) t.paths in
-    let ok = last_is old before in
-    let reach = reach_paths (last_skipped old) t.paths ok t.are rest in
-    let here = paths_halt end (end_stays (last_skipped old) t.paths ok t.are) rest some stop (stops stop (subst (λ l. Stops (skipped_at l rest) stop) (last_now old now t.paths t.kept) h)) line in
-    subst (λ b. Halts (IsSkippedText (last_skipped old)) lines b (halt_of stop (line + 1))) (sym t.text) (behind_halt reach lines line t.lined (halt_of stop (line + 1)) here)
-  where
-    stops : (s : Stop) → Stops (skipped_at (end_of (last_skipped old) t.paths) rest) s → StopsAt (skipped_at (end_of (last_skipped old) t.paths)) rest s
-    stops Memory h = tt
-    stops More h = h
-    stops Dead h = h
+  pub paths_next : (new : Drafted) (mid after : Intake) (on there : Option (List ℕ)) (a b c d : ℕ) → IsLongAsked intake mid here on a b (Ok true) → TakesSkipped now new mid after on there c d (Ok tt) → TakenPaths start first old new after there
+  paths_next new mid after on there a b c d asked h =
+      let ps = t.paths ++ h.0 ∷ [] in
+      let whole : now.skipped ++ h.0 ∷ [] ≡ old.skipped ++ ps = ap (λ (d : Drafted). d.skipped ++ h.0 ∷ []) t.kept ∙ append_assoc old.skipped t.paths (h.0 ∷ []) in
+      let line = taken_then (taken_asked intake mid here on a b asked) h.2 (skipped_line h.0) 1 refl refl in
+      record {
+        paths = ps;
+        are = paths_push (last_skipped old) t.paths h.0 t.are (subst (λ l. IsNext l h.0) (last_now old now t.paths t.kept) h.1);
+        kept = h.3 ∙ (λ i. record (t.kept i) { skipped = whole i });
+        taken = taken_then t.taken line (flat_map skipped_line ps) (length ps) (lines_append skipped_line t.paths h.0) (sym (length_push t.paths h.0));
+      }
+
+  pub paths_end : (after : Intake) (there : Option (List ℕ)) (a b c d : ℕ) → IsLongAsked intake after here there a b (Ok false) → TakesPaths old now start after first there c d (Ok tt)
+  paths_end after there a b c d asked = (t.paths, t.are, taken_all t.taken after there a b asked, t.kept)
+
+  pub paths_asked : (after : Intake) (there : Option (List ℕ)) (begin a b : ℕ) (f : TextFault) → IsLongAsked intake after here there a b (Err f) → a ≡ begin → Lacks (IsSkippedText (last_skipped old)) start first there begin b f
+  paths_asked after there begin a b f asked same = lacks_behind t.taken paths_reach there begin a b f same (lacks_asked ([], ([], tt, refl)) intake after here there a b f asked)
+
+  pub paths_stop : (mid : Intake) (on there : Option (List ℕ)) (begin a b c : ℕ) (f : TextFault) → IsLongAsked intake mid here on a b (Ok true) → a ≡ begin → b ≡ a
+      → OrMemory (IsStuck (skipped_at (last_skipped now)) mid.lines (room_of mid) (rest_of mid on) there b c) f → Lacks (IsSkippedText (last_skipped old)) start first there begin c f
+  paths_stop mid on there begin a b c f asked same unfailed h =
+      let last = last_skipped now in
+      let ok : IsLastPath last = last_is now paths_rise in
+      lacks_behind t.taken paths_reach there begin a c f same
+      (lacks_first (skipped_some last) (skipped_back last) (skipped_grammar last ok) (skipped_code last ok) intake mid here on there a b c f asked unfailed h)
 
 -- some rows
-pub record TakenRows (bytes : List ℕ) (now : Drafted) (line : ℕ) (rest : List ℕ) : Type 0 where
+pub record TakenRows (start : Intake) (first : Option (List ℕ)) (now : Drafted) (intake : Intake) (here : Option (List ℕ)) : Type 0 where
   pub are : AreRows None now.rows
   pub hits : now.hits ≡ []
   pub skips : now.skipped ≡ []
-  pub text : bytes ≡ flat_map row_text now.rows ++ rest
-  pub lined : line ≡ lines_of now.rows
-  pub room : line + length rest ≤ length bytes
+  pub taken : IsTaken (flat_map row_text now.rows) (lines_of now.rows) start intake first here
 
-pub rows_begin : (bytes : List ℕ) (old : Drafted) → old ≡ record { rows = []; hits = []; skipped = [] } → TakenRows bytes old 0 bytes
-rows_begin bytes old e = record {
-  are = subst (λ (d : Drafted). AreRows None d.rows) (sym e) tt;
-  hits = ap (λ (d : Drafted). d.hits) e;
-  skips = ap (λ (d : Drafted). d.skipped) e;
-  text = ap (λ (d : Drafted). flat_map row_text d.rows ++ bytes) (sym e);
-  lined = ap (λ (d : Drafted). lines_of d.rows) (sym e);
-  room = omega arith;
-}
-
-pub word_now : (now : Drafted) → AreRows None now.rows → IsLast (last_word now)
-word_now now are = subst IsLast (end_word_is now.rows) (word_stays None now.rows tt are)
-
--- the heading that was read
-pub record IsHeadingRead (now : Drafted) (x : Heading) (rest after : List ℕ) : Type 0 where
-  pub lawful : IsHeading (last_word now) x
-  pub is : rest ≡ heading_text x ++ after
-
-pub heading_read : (now : Drafted) (x : Heading) (rest after : List ℕ) → AreRows None now.rows → heading_at (last_word now) rest ≡ Ok (x, after) → IsHeadingRead now x rest after
-heading_read now x rest after are e = let f = (heading_code (last_word now) (word_now now are)).found rest after x e in record { lawful = f.0; is = f.1 }
-
-hits_long : (hs : List Hit) → length hs ≤ length (flat_map hit_line hs)
-hits_long [] = omega arith
-hits_long (h ∷ hs) = omega (arith, hits_long hs, length-append (hit_line h) (flat_map hit_line hs), one h)
-  where
-    one : (h : Hit) → 1 ≤ length (hit_line h)
-    one h = simp length-append (omega arith)
-
-pub heading_room : (x : Heading) (rest after : List ℕ) → rest ≡ heading_text x ++ after → length after + 1 ≤ length rest
-heading_room (word w n) rest after e = omega (arith, ap length e, length-append (heading_text (word w n)) after, long)
-  where
-    long : 1 ≤ length (heading_text (word w n))
-    long = simp length-append (omega arith)
-heading_room (skipped p) rest after e = omega (arith, ap length e, length-append (skipped_line p) after, long)
-  where
-    long : 1 ≤ length (skipped_line p)
-    long = simp length-append (omega arith)
-
-pub hits_room : (hs : List Hit) (bytes rest : List ℕ) → bytes ≡ flat_map hit_line hs ++ rest → length hs + length rest ≤ length bytes
-hits_room hs bytes rest e = omega (arith, ap length e, length-append (flat_map hit_line hs) rest, hits_long hs)
-
-pub rows_next : {bytes : List ℕ} {now : Drafted} {line : ℕ} {rest : List ℕ} → TakenRows bytes now line rest
-    → (w after : List ℕ) (n : ℕ) → heading_at (last_word now) rest ≡ Ok (word w n, after) → (new : Drafted) (end : Bor (List ℕ)) → TakesRow w n (line + 1) now new after (Ok end)
-    → (many : ℕ) → many ≡ capped n → length bytes + 1 < 2 ^ 64 → TakenRows bytes new (line + 1 + many) end.now
-rows_next {bytes} {now} {line} {rest} t w after n e new end h many c short =
-    let r = heading_read now (word w n) rest after t.are e in
-    let row : Row = record { word = w; hits = h.0 } in
-    let rows : new.rows ≡ now.rows ++ row ∷ [] = ap (λ (d : Drafted). d.rows) h.4 in
-    let above = subst (λ o. IsAbove o w) (sym (end_word_is now.rows)) r.lawful.0.1 in
-    let room = hits_room h.0 after end.now h.3 in
-    let prefix_room = heading_room (word w n) rest after r.is in
-    let counted : many ≡ length h.0 = omega (arith, c, h.1, room, prefix_room, t.room, short) in
-    let some : 1 ≤ length h.0 = omega (arith, h.1, r.lawful.1) in
-    let prefix : heading_text (word w n) ≡ word_line row = ap (λ k. w ++ codes " " ++ numeral k ++ newline) (sym h.1) in
-    let text : rest ≡ row_text row ++ end.now = r.is ∙ (λ i. prefix i ++ h.3 i) ∙ sym (append_assoc (word_line row) (flat_map hit_line h.0) end.now) in
+pub rows_begin : (start : Intake) (first : Option (List ℕ)) (now : Drafted) → now ≡ record { rows = []; hits = []; skipped = [] } → TakenRows start first now start first
+rows_begin start first now e =
+    let none : now.rows ≡ [] = ap (λ (d : Drafted). d.rows) e in
     record {
-      are = subst (AreRows None) (sym rows) (rows_push None now.rows row t.are (record { word = r.lawful.0.0; above = above; many = some; hits = h.2 }));
-      hits = ap (λ (d : Drafted). d.hits) h.4;
-      skips = ap (λ (d : Drafted). d.skipped) h.4 ∙ t.skips;
-      text = t.text ∙ ap (λ l. flat_map row_text now.rows ++ l) text ∙ sym (lines_append row_text now.rows row end.now) ∙ ap (λ l. flat_map row_text l ++ end.now) (sym rows);
-      lined = omega (arith, t.lined, lines_push now.rows row, ap lines_of rows, counted);
-      room = omega (arith, t.room, prefix_room, room, counted);
+      are = subst (AreRows None) (sym none) tt;
+      hits = ap (λ (d : Drafted). d.hits) e;
+      skips = ap (λ (d : Drafted). d.skipped) e;
+      taken = taken_none start first (flat_map row_text now.rows) (lines_of now.rows) (ap (flat_map row_text) none) (ap lines_of none);
     }
 
-pub rows_end : {bytes : List ℕ} {now : Drafted} {line : ℕ} {rest : List ℕ} → TakenRows bytes now line rest → length rest ≡ 0 → TakesRows now bytes (Ok tt)
-rows_end {bytes} {now} {line} {rest} t none =
-    (t.are, subst (ArePaths None) (sym t.skips) tt, t.hits, t.text ∙ (λ i. flat_map row_text now.rows ++ nothing_left rest none i) ∙ ap (λ l. flat_map row_text now.rows ++ flat_map skipped_line l) (sym t.skips))
+-- what a prefix says, with the number of files however large
+says_word : (x : Heading) (laid : List ℕ) (many : ℕ) → SaysHeading laid (prefixes.Word many) x → (n : ℕ) × (many ≡ capped n) × (x ≡ word laid n)
+says_word (word v n) laid many e =
+    let name : v ≡ laid = cc in
+    let most : capped n ≡ many = cc in
+    (n, sym most, ap (λ l. word l n) name)
+says_word (skipped p) laid many e = absurd (cc)
 
-reach_now : {bytes : List ℕ} {now : Drafted} {line : ℕ} {rest : List ℕ} → TakenRows bytes now line rest → Reaches (IsRowsText None) bytes (IsRowsText (last_word now)) rest line
-reach_now {bytes} {now} {line} {rest} t =
-    let r = reach_rows None now.rows tt t.are rest in
-    subst (λ n. Reaches (IsRowsText None) bytes (IsRowsText (last_word now)) rest n) (sym t.lined)
-    (subst (λ b. Reaches (IsRowsText None) b (IsRowsText (last_word now)) rest (lines_of now.rows)) (sym t.text) (subst (λ l. Reaches (IsRowsText None) (flat_map row_text now.rows ++ rest) (IsRowsText l) rest (lines_of now.rows)) (end_word_is now.rows) r))
+says_skipped : (x : Heading) (laid : List ℕ) → SaysHeading laid prefixes.Skipped x → x ≡ skipped laid
+says_skipped (word v n) laid e = absurd (cc)
+says_skipped (skipped p) laid e = e
 
-pub rows_stop : {bytes : List ℕ} {now : Drafted} {line : ℕ} {rest : List ℕ} → TakenRows bytes now line rest → (last : Drafted) (stop : Stop) → Stops (heading_at (last_word now) rest) stop → 0 < length rest → TakesRows last bytes (Err (halt_of stop (line + 1)))
-rows_stop {bytes} {now} {line} {rest} t last stop h some =
-    let here = rows_halt (last_word now) (word_now now t.are) rest some stop (stops stop h) line in
-    behind_halt (reach_now t) 0 line (omega arith) (halt_of stop (line + 1)) here
-  where
-    stops : (s : Stop) → Stops (heading_at (last_word now) rest) s → StopsAt (heading_at (last_word now)) rest s
-    stops Memory h = tt
-    stops More h = h
-    stops Dead h = h
+heading_some : (x : Heading) → 0 < length (heading_text x)
+heading_some (word w n) = simp length-append (omega arith)
+heading_some (skipped p) = skipped_long p
 
--- what halts behind a heading
-pub rows_behind : {bytes : List ℕ} {now : Drafted} {line : ℕ} {rest : List ℕ} → TakenRows bytes now line rest → (x : Heading) (after : List ℕ) → heading_at (last_word now) rest ≡ Ok (x, after)
-    → (last : Drafted) (halt : Halt) → Halts (Behind x) (line + 1) after halt → TakesRows last bytes (Err halt)
-rows_behind {bytes} {now} {line} {rest} t x after e last halt h =
-    let r = heading_read now x rest after t.are e in
-    let first = subst (λ b. Reaches (IsRowsText (last_word now)) b (Behind x) after 1) (sym r.is) (reach_heading (last_word now) (word_now now t.are) x r.lawful after) in
-    behind_halt (reach_then (line + 1) refl (reach_now t) first) 0 (line + 1) (omega arith) halt h
+-- a heading above the last word of the draft
+pub heading_now : (last : Option (List ℕ)) (now : Drafted) (mid after : Intake) (on there : Option (List ℕ)) (b s : ℕ) (laid : List ℕ) (y : Prefix) → last ≡ last_word now
+    → TakesLine (IsHeading last) heading_text (heading_at last) (SaysHeading laid) mid after on there b s (Ok y) → TakesLine (IsHeading (last_word now)) heading_text (heading_at (last_word now)) (SaysHeading laid) mid after on there b s (Ok y)
+heading_now last now mid after on there b s laid y same h = subst (λ (l : Option (List ℕ)). TakesLine (IsHeading l) heading_text (heading_at l) (SaysHeading laid) mid after on there b s (Ok y)) same h
 
--- the skipped paths come last
-pub rows_paths : {bytes : List ℕ} {now : Drafted} {line : ℕ} {rest : List ℕ} → TakenRows bytes now line rest → (p after : List ℕ) → heading_at (last_word now) rest ≡ Ok (skipped p, after)
-    → (mid new : Drafted) → mid ≡ record now { skipped = now.skipped ++ p ∷ [] } → TakesPaths (line + 1) mid new after (Ok tt) → TakesRows new bytes (Ok tt)
-rows_paths {bytes} {now} {line} {rest} t p after e mid new m h =
-    let r = heading_read now (skipped p) rest after t.are e in
-    let one : mid.skipped ≡ p ∷ [] = ap (λ (d : Drafted). d.skipped) m ∙ ap (λ l. l ++ p ∷ []) t.skips in
-    let all : new.skipped ≡ p ∷ h.0 = ap (λ (d : Drafted). d.skipped) h.3 ∙ ap (λ l. l ++ h.0) one in
-    let rows : new.rows ≡ now.rows = ap (λ (d : Drafted). d.rows) h.3 ∙ ap (λ (d : Drafted). d.rows) m in
-    let rest_are = subst (λ l. ArePaths (slice_get l (length l - 1)) h.0) one h.1 in (
-      subst (AreRows None) (sym rows) t.are,
-      subst (ArePaths None) (sym all) (r.lawful, rest_are),
-      ap (λ (d : Drafted). d.hits) h.3 ∙ ap (λ (d : Drafted). d.hits) m ∙ t.hits,
-      t.text ∙ ap (λ l. flat_map row_text now.rows ++ l) (r.is ∙ ap (λ l. skipped_line p ++ l) h.2) ∙ (λ i. flat_map row_text (sym rows i) ++ flat_map skipped_line (sym all i)),
-    )
+module _ {start : Intake} {first : Option (List ℕ)} {now : Drafted} {intake : Intake} {here : Option (List ℕ)} (t : TakenRows start first now intake here) where
+  pub last_ok : IsLast (last_word now)
+  last_ok = subst IsLast (end_word_is now.rows) (word_stays None now.rows tt t.are)
 
-pub paths_shorter : {bytes : List ℕ} {lines : ℕ} {old now : Drafted} {line : ℕ} {rest : List ℕ} → ArePaths None old.skipped → TakenPaths bytes lines old now line rest
-    → (new : Drafted) (after : Bor (List ℕ)) → TakesSkipped now new rest (Ok after) → length after.now < length rest
-paths_shorter {bytes} {lines} {old} {now} {line} {rest} before t new after h =
-    let last = end_of (last_skipped old) t.paths in
-    let f = (skipped_code last (end_stays (last_skipped old) t.paths (last_is old before) t.are)).found rest after.now h.0 (ap (λ l. skipped_at l rest) (sym (last_now old now t.paths t.kept)) ∙ h.1) in
-    omega (arith, heading_room (skipped h.0) rest after.now f.1)
+  rows_reach : (rest : List ℕ) → Reaches (IsRowsText None) (flat_map row_text now.rows ++ rest) (IsRowsText (last_word now)) rest (lines_of now.rows)
+  rows_reach rest =
+      subst (λ l. Reaches (IsRowsText None) (flat_map row_text now.rows ++ rest) (IsRowsText l) rest (lines_of now.rows)) (end_word_is now.rows) (reach_rows None now.rows tt t.are rest)
 
-pub row_shorter : {bytes : List ℕ} {now : Drafted} {line : ℕ} {rest : List ℕ} → TakenRows bytes now line rest
-    → (w after : List ℕ) (n : ℕ) → heading_at (last_word now) rest ≡ Ok (word w n, after) → (new : Drafted) (end : Bor (List ℕ)) → TakesRow w n (line + 1) now new after (Ok end) → length end.now < length rest
-row_shorter {bytes} {now} {line} {rest} t w after n e new end h =
-    let r = heading_read now (word w n) rest after t.are e in
-    omega (arith, heading_room (word w n) rest after r.is, hits_room h.0 after end.now h.3)
+  pub rows_end : (after : Intake) (there : Option (List ℕ)) (a b c d : ℕ) → IsLongAsked intake after here there a b (Ok false) → TakesRows now start after first there c d (Ok tt)
+  rows_end after there a b c d asked =
+      let none = sym t.skips in
+      let text : flat_map row_text now.rows ≡ text_of now.rows now.skipped = sym (append-nil (flat_map row_text now.rows)) ∙ ap (λ l. flat_map row_text now.rows ++ flat_map skipped_line l) none in
+      (t.are, subst (ArePaths None) none tt, t.hits, subst (λ l. IsAll l start first there) text (taken_all t.taken after there a b asked))
 
-pub first_skipped : {bytes : List ℕ} {now : Drafted} {line : ℕ} {rest : List ℕ} → TakenRows bytes now line rest → (p after : List ℕ) → heading_at (last_word now) rest ≡ Ok (skipped p, after)
-    → (mid : Drafted) → mid ≡ record now { skipped = now.skipped ++ p ∷ [] } → ArePaths None mid.skipped
-first_skipped {bytes} {now} {line} {rest} t p after e mid m =
-    let r = heading_read now (skipped p) rest after t.are e in
-    let one : mid.skipped ≡ p ∷ [] = ap (λ (d : Drafted). d.skipped) m ∙ ap (λ l. l ++ p ∷ []) t.skips in
-    subst (ArePaths None) (sym one) (r.lawful, tt)
+  pub rows_asked : (after : Intake) (there : Option (List ℕ)) (begin a b : ℕ) (f : TextFault) → IsLongAsked intake after here there a b (Err f) → a ≡ begin → Lacks (IsRowsText None) start first there begin b f
+  rows_asked after there begin a b f asked same = lacks_behind t.taken rows_reach there begin a b f same (lacks_asked ([], ([], [], tt, tt, refl)) intake after here there a b f asked)
 
-pub rows_last : {bytes : List ℕ} {now : Drafted} {line : ℕ} {rest : List ℕ} → TakenRows bytes now line rest → (p after : List ℕ) → heading_at (last_word now) rest ≡ Ok (skipped p, after)
-    → (mid new : Drafted) → mid ≡ record now { skipped = now.skipped ++ p ∷ [] } → (result : Result (Unit {0}) Halt) → TakesPaths (line + 1) mid new after result → TakesRows new bytes result
-rows_last t p after e mid new m (Ok u) h = rows_paths t p after e mid new m h
-rows_last {bytes} {now} {line} {rest} t p after e mid new m (Err halt) h =
-    let one : mid.skipped ≡ p ∷ [] = ap (λ (d : Drafted). d.skipped) m ∙ ap (λ l. l ++ p ∷ []) t.skips in
-    rows_behind t (skipped p) after e new halt (subst (λ l. Halts (IsSkippedText (slice_get l (length l - 1))) (line + 1) after halt) one h)
+  pub rows_stop : (mid : Intake) (on there : Option (List ℕ)) (begin a b c : ℕ) (f : TextFault) → IsLongAsked intake mid here on a b (Ok true) → a ≡ begin → b ≡ a
+      → OrMemory (IsStuck (heading_at (last_word now)) mid.lines (room_of mid) (rest_of mid on) there b c) f → Lacks (IsRowsText None) start first there begin c f
+  rows_stop mid on there begin a b c f asked same unfailed h =
+      let last = last_word now in
+      lacks_behind t.taken rows_reach there begin a c f same
+      (lacks_first (rows_some last) (rows_back last) (rows_grammar last) (heading_code last last_ok) intake mid here on there a b c f asked unfailed h)
+
+  module _ (mid after : Intake) (on there : Option (List ℕ)) (a b : ℕ) (asked : IsLongAsked intake mid here on a b (Ok true)) (laid : List ℕ) (x : Heading) (is : IsHeading (last_word now) x) (line : IsTaken (heading_text x) 1 mid after on there) where
+    heading_taken : IsTaken (flat_map row_text now.rows ++ heading_text x) (lines_of now.rows + 1) start after first there
+    heading_taken = taken_then t.taken (taken_then (taken_asked intake mid here on a b asked) line (heading_text x) 1 refl refl) (flat_map row_text now.rows ++ heading_text x) (lines_of now.rows + 1) refl refl
+
+    heading_reach : (rest : List ℕ) → Reaches (IsRowsText None) ((flat_map row_text now.rows ++ heading_text x) ++ rest) (Behind x) rest (lines_of now.rows + 1)
+    heading_reach rest =
+        subst (λ l. Reaches (IsRowsText None) l (Behind x) rest (lines_of now.rows + 1)) (sym (append_assoc (flat_map row_text now.rows) (heading_text x) rest))
+        (reach_then (lines_of now.rows + 1) refl (rows_reach (heading_text x ++ rest)) (reach_heading (last_word now) last_ok x is rest))
+
+    -- why what follows a heading isn't taken
+    pub rows_behind : (last : Option (List ℕ)) (begin c d : ℕ) (f : TextFault) → c ≡ begin → Lacks (Behind x) after there last c d f → Lacks (IsRowsText None) start first last begin d f
+    rows_behind last begin c d f same h = lacks_behind heading_taken heading_reach last begin c d f same h
+
+    pub row_many : (many : ℕ) → SaysHeading laid (prefixes.Word many) x → 1 ≤ many
+    row_many many says = let s = says_word x laid many says in let k : IsHeading (last_word now) (word laid s.0) = subst (IsHeading (last_word now)) s.2 is in omega (arith, k.1, s.1)
+
+    pub row_smaller : (many : ℕ) → SaysHeading laid (prefixes.Word many) x → (new : Drafted) (last : Intake) (end : Option (List ℕ)) (c d : ℕ)
+        → ((n : ℕ) → many ≡ capped n → TakesRow laid n now new after last there end c d (Ok tt)) → room_of last < room_of intake
+    row_smaller many says new last end c d all = let s = says_word x laid many says in let h = all s.0 s.1 in omega (arith, h.3.room, line.room, asked.1, heading_some x)
+
+    pub row_stop : (many : ℕ) → SaysHeading laid (prefixes.Word many) x → (new : Drafted) (last : Intake) (end : Option (List ℕ)) (begin c d : ℕ) (f : TextFault) → c ≡ begin
+        → ((n : ℕ) → many ≡ capped n → TakesRow laid n now new after last there end c d (Err f)) → Lacks (IsRowsText None) start first end begin d f
+    row_stop many says new last end begin c d f same h =
+        let s = says_word x laid many says in
+        rows_behind end begin c d f same (subst (λ y. Lacks (Behind y) after there end c d f) (sym s.2) (h s.0 s.1))
+
+    pub rows_next : (many : ℕ) → SaysHeading laid (prefixes.Word many) x → (new : Drafted) (last : Intake) (end : Option (List ℕ)) (c d : ℕ)
+        → ((n : ℕ) → many ≡ capped n → TakesRow laid n now new after last there end c d (Ok tt)) → TakenRows start first new last end
+    rows_next many says new last end c d all =
+        let s = says_word x laid many says in
+        let n = s.0 in
+        let h = all n s.1 in
+        let k : IsHeading (last_word now) (word laid n) = subst (IsHeading (last_word now)) s.2 is in
+        let row : Row = record { word = laid; hits = h.0 } in
+        let rows : new.rows ≡ now.rows ++ row ∷ [] = ap (λ (d : Drafted). d.rows) h.4 in
+        let above = subst (λ o. IsAbove o laid) (sym (end_word_is now.rows)) k.0.1 in
+        let some : 1 ≤ length h.0 = omega (arith, h.1, k.1) in
+        let prefix : heading_text x ≡ word_line row = ap heading_text s.2 ∙ ap (λ k. laid ++ codes " " ++ numeral k ++ newline) (sym h.1) in
+        let text : (flat_map row_text now.rows ++ heading_text x) ++ flat_map hit_line h.0 ≡ flat_map row_text new.rows =
+        append_assoc (flat_map row_text now.rows) (heading_text x) (flat_map hit_line h.0) ∙ ap (λ l. flat_map row_text now.rows ++ (l ++ flat_map hit_line h.0)) prefix ∙ lines_append row_text now.rows row ∙ ap (flat_map row_text) (sym rows) in
+        record {
+          are = subst (AreRows None) (sym rows) (rows_push None now.rows row t.are (record { word = k.0.0; above = above; many = some; hits = h.2 }));
+          hits = ap (λ (d : Drafted). d.hits) h.4;
+          skips = ap (λ (d : Drafted). d.skipped) h.4 ∙ t.skips;
+          taken = taken_then heading_taken h.3 (flat_map row_text new.rows) (lines_of new.rows) text (omega (arith, h.1, lines_push now.rows row, ap lines_of rows));
+        }
+
+    -- the skipped paths come last
+    module _ (says : SaysHeading laid prefixes.Skipped x) (first_path : Drafted) (m : first_path ≡ record now { skipped = now.skipped ++ laid ∷ [] }) where
+      one : first_path.skipped ≡ laid ∷ []
+      one = ap (λ (d : Drafted). d.skipped) m ∙ ap (λ l. l ++ laid ∷ []) t.skips
+
+      is_next : IsNext None laid
+      is_next = let k : IsHeading (last_word now) (skipped laid) = subst (IsHeading (last_word now)) (says_skipped x laid says) is in k
+
+      pub first_skipped : ArePaths None first_path.skipped
+      first_skipped = subst (ArePaths None) (sym one) (is_next, tt)
+
+      rows_paths : (new : Drafted) (last : Intake) (end : Option (List ℕ)) (c d : ℕ) → TakesPaths first_path new after last there end c d (Ok tt) → TakesRows new start last first end c d (Ok tt)
+      rows_paths new last end c d h =
+          let all : new.skipped ≡ laid ∷ h.0 = ap (λ (d : Drafted). d.skipped) h.3 ∙ ap (λ l. l ++ h.0) one in
+          let rows : new.rows ≡ now.rows = ap (λ (d : Drafted). d.rows) h.3 ∙ ap (λ (d : Drafted). d.rows) m in
+          let are = subst (λ l. ArePaths (slice_get l (length l - 1)) h.0) one h.1 in
+          let prefix : heading_text x ≡ skipped_line laid = ap heading_text (says_skipped x laid says) in
+          let text : (flat_map row_text now.rows ++ heading_text x) ++ flat_map skipped_line h.0 ≡ text_of new.rows new.skipped =
+          append_assoc (flat_map row_text now.rows) (heading_text x) (flat_map skipped_line h.0) ∙ ap (λ l. flat_map row_text now.rows ++ (l ++ flat_map skipped_line h.0)) prefix ∙ (λ i. flat_map row_text (sym rows i) ++ flat_map skipped_line (sym all i)) in
+          (subst (AreRows None) (sym rows) t.are, subst (ArePaths None) (sym all) (is_next, are), ap (λ (d : Drafted). d.hits) h.3 ∙ ap (λ (d : Drafted). d.hits) m ∙ t.hits, all_behind heading_taken h.2 text)
+
+      pub rows_last : (new : Drafted) (last : Intake) (end : Option (List ℕ)) (begin c d : ℕ) (result : Result (Unit {0}) TextFault) → c ≡ begin → TakesPaths first_path new after last there end c d result → TakesRows new start last first end begin d result
+      rows_last new last end begin c d (Ok u) same h = rows_paths new last end begin d h
+      rows_last new last end begin c d (Err f) same h =
+          let s = says_skipped x laid says in
+          rows_behind end begin c d f same (subst (λ y. Lacks (Behind y) after there end c d f) (sym s) (subst (λ (l : List (List ℕ)). Lacks (IsSkippedText (slice_get l (length l - 1))) after there end c d f) one h))

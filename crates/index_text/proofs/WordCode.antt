@@ -11,6 +11,7 @@ use Rattle.exact_text.specs.Codes.{IsCode}
 use Rattle.exact_text.proofs.CodeLaws.{same_code}
 use Rattle.word_index.specs.Index.{IsBelow}
 use Rattle.index_text.specs.Texts.{is_key_byte, IsWord, IsAbove}
+use Rattle.index_text.specs.Next.{IsLast, IsKey}
 use Rattle.index_text.specs.Lines.{is_good_word, may_be_word, key_at, is_above, is_prefix}
 use Rattle.index_text.proofs.Orders.{below_cons, below_first, below_rest, below_prefix, below_cancel, below_longer, below_or_prefix, prefix_rest}
 use Rattle.index_text.proofs.Tokens.{token_code, both_true}
@@ -25,11 +26,6 @@ keys_split (x ∷ xs) ys h = let r = keys_split xs ys h.1 in ((h.0, r.0), r.1)
 pub keys_join : (xs ys : List ℕ) → Keys xs → Keys ys → Keys (xs ++ ys)
 keys_join [] ys p q = q
 keys_join (x ∷ xs) ys p q = (p.0, keys_join xs ys p.1 q)
-
--- the last word, if there is one, is a word
-abbrev pub IsLast : Option (List ℕ) → Type 0
-IsLast None = Unit {0}
-IsLast (Some last) = IsWord last
 
 pub lt_less : (o : Ordering) → is_lt o ≡ true → o ≡ Less
 lt_less Less h = refl
@@ -169,9 +165,6 @@ key_whole (Some l) ok w more k h =
           ])
     ] in
     rw (le-leb (length w) 64 short) rest
-
-abbrev pub IsKey : Option (List ℕ) → List ℕ → Type 0
-IsKey last w = IsWord w × IsAbove last w
 
 -- a word above the last one and the space behind it
 pub key_code : (last : Option (List ℕ)) → IsLast last → IsCode (IsKey last) (λ w. w ++ 32 ∷ []) (key_at last)

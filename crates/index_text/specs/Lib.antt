@@ -4,5 +4,6 @@ pub mod Lines
 pub mod Faults
 pub mod Steps
 pub mod Escapes
-pub mod Input
+pub mod Next
+pub mod Takes
 pub mod Laws

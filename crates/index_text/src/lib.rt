@@ -1,21 +1,20 @@
 //! The reader of index texts.
 //!
-//! Promises: `read_index` answers the index that the input is the text of, or the first bad line, exactly; an input of more bytes than
-//! 67,108,864 (or as `read_index_within` is told) is too long where its first bytes up to the budget begin a text. A failing source and want of memory are told apart: the
-//! source's count of faults rises where a failed read is answered, and stays as it was elsewhere. Each index text of an index of files
-//! is such a text, and a text reads as one index (`laws`).
-//! Stands on `index_table`, on `trace_core` for what a bad line is and for exact reading, and on the sources of `firefly_outside`.
+//! Promises: `read_index` returns the index that the input is the text of, or the first bad line, exactly, at the first byte that shows it.
+//! An input of more than 67,108,864 bytes (or as many as `read_index_within` is told) is too long where its first bytes begin a text. Each
+//! index text of an index of files is such a text, and a text reads as one index (`laws`). Of the text only a part of a line and the last
+//! bytes that came are held. Stands on `exact_text` and `index_table`.
 #![tactic(auto)]
 
 mod fault;
-mod input;
 mod key;
 pub mod laws;
 mod lines;
-mod parse;
+mod next;
 mod path;
 mod read;
+mod take;
 mod token;
 
-pub use fault::IndexFault;
+pub use exact_text::TextFault;
 pub use read::{read_index, read_index_within};

@@ -1,33 +1,21 @@
 //! The lines of an index text.
-ghost use Rattle.std.specs.Prelude.{◌≡◌, ◌∷◌, ◌++◌, [], OnOk};
+ghost use Rattle.std.specs.Prelude.{◌≡◌, OnOk};
 ghost use Rattle.std.specs.Option.{option_copied};
 ghost use Rattle.exact_text.specs.Reading.{as_value};
-ghost use Rattle.index_text.specs.Lines.{capped_heading, capped_line, heading_at, key_line_at, skipped_at, hit_prefix_at};
-ghost use Rattle.index_text.specs.Steps.{Gives, TakesHit, TakesSkipped, heading_of};
+ghost use Rattle.index_text.specs.Lines.{capped_heading, capped_line, heading_at, hit_at, hit_from, key_line_at, skipped_at, hit_prefix_at};
+ghost use Rattle.index_text.specs.Steps.{Gives, heading_of};
 
 use crate::fault::Stop;
 use crate::key::key;
 use crate::path::path;
 use crate::token::{capped_numeral, figure, word};
-use index_table::Draft;
 use std::alloc::AllocError;
-use std::str::from_utf8;
 
 /// The prefix of a row with its number of files as far as a counter goes, or a skipped path.
 #[derive(Clone, Copy)]
-pub enum Prefix<'b> {
-    Word { word: &'b [u8], many: u64 },
+pub enum Prefix {
+    Word(u64),
     Skipped,
-}
-
-// The bytes of the last path.
-fn bytes_of(last: Option<&str>) -> Option<&[u8]>
-    ensures { option_copied result ≡ option_copied last.entry }
-{
-    match last {
-        Some(text) => Some(text.as_bytes()),
-        None => None,
-    }
 }
 
 // Reads the line of a word: the word, its number of files as far as a counter goes, and what follows.
@@ -45,8 +33,8 @@ fn word_line<'b>(bytes: &'b [u8], last: Option<&[u8]>) -> Result<(&'b [u8], u64,
     }
 }
 
-// Reads the line of a skipped path above the last one, and lays the path down.
-fn skipped_line<'b>(
+/// Reads the line of a skipped path above the last one, and lays the path down.
+pub fn skipped_line<'b>(
     bytes: &'b [u8],
     last: Option<&[u8]>,
     out: &mut Vec<u8>,
@@ -59,12 +47,20 @@ fn skipped_line<'b>(
     }
 }
 
-/// Reads the line of a word above the last one, or that of the first skipped path, which is laid down.
+// Lays the word down.
+fn lay(word: &[u8], out: &mut Vec<u8>) -> Result<(), AllocError>
+    ensures { OnOk result (out.new.items ≡ word.now) }
+{
+    out.clear();
+    out.extend_from_slice(word)
+}
+
+/// Reads the line of a word above the last one, or that of the first skipped path, and lays the word or the path down.
 pub fn heading<'b>(
     bytes: &'b [u8],
     last: Option<&[u8]>,
     out: &mut Vec<u8>,
-) -> Result<(Prefix<'b>, &'b [u8]), Stop>
+) -> Result<(Prefix, &'b [u8]), Stop>
     ensures { Gives (λ x. (heading_of out.new.items x.0, x.1.now)) result
         (as_value capped_heading (heading_at (option_copied last.entry)) bytes.now) }
 {
@@ -72,41 +68,15 @@ pub fn heading<'b>(
         Err(Stop::Dead) => {}
         Err(Stop::More) => return Err(Stop::More),
         Err(Stop::Memory) => return Err(Stop::Memory),
-        Ok((word, many, rest)) => return Ok((Prefix::Word { word, many }, rest)),
+        Ok((word, many, rest)) => {
+            return match lay(word, out) {
+                Ok(()) => Ok((Prefix::Word(many), rest)),
+                Err(_) => Err(Stop::Memory),
+            };
+        }
     }
     match skipped_line(bytes, None, out) {
         Ok(rest) => Ok((Prefix::Skipped, rest)),
-        Err(stop) => Err(stop),
-    }
-}
-
-/// Adds the path that was laid down.
-pub fn add_skipped(draft: &mut Draft, path: &[u8]) -> Result<(), AllocError>
-    ensures { OnOk result (draft.new ≡ record draft.old { skipped = draft.old.skipped ++ path.now ∷ [] }) }
-{
-    match from_utf8(path) {
-        Ok(text) => match draft.skip(text) {
-            Ok(()) => Ok(()),
-            Err(_) => Err(AllocError),
-        },
-        Err(_) => Err(AllocError),
-    }
-}
-
-/// Takes the line of a skipped path above the last one.
-pub fn take_skipped<'b>(
-    bytes: &'b [u8],
-    draft: &mut Draft,
-    out: &mut Vec<u8>,
-) -> Result<&'b [u8], Stop>
-    ensures { TakesSkipped draft.old draft.new bytes.now result }
-{
-    let last = bytes_of(draft.last_skipped());
-    match skipped_line(bytes, last, out) {
-        Ok(rest) => match add_skipped(draft, out) {
-            Ok(()) => Ok(rest),
-            Err(_) => Err(Stop::Memory),
-        },
         Err(stop) => Err(stop),
     }
 }
@@ -129,23 +99,20 @@ fn hit_prefix(bytes: &[u8]) -> Result<(u64, u64, &[u8]), Stop>
     }
 }
 
-/// Takes the line of a file with a path above the last one of the row.
-pub fn take_hit<'b>(bytes: &'b [u8], draft: &mut Draft, out: &mut Vec<u8>) -> Result<&'b [u8], Stop>
-    ensures { TakesHit draft.old draft.new bytes.now result }
+/// Reads the line of a file with a path above the last one, and lays the path down.
+pub fn hit<'b>(
+    bytes: &'b [u8],
+    last: Option<&[u8]>,
+    out: &mut Vec<u8>,
+) -> Result<((u64, u64), &'b [u8]), Stop>
+    ensures { Gives (λ x. (hit_from (x.0, out.new.items), x.1.now)) result (hit_at (option_copied last.entry) bytes.now) }
 {
     let (count, line, rest) = match hit_prefix(bytes) {
         Ok(read) => read,
         Err(stop) => return Err(stop),
     };
-    let last = bytes_of(draft.last_path());
     match path(rest, last, out) {
-        Ok(rest) => match from_utf8(out) {
-            Ok(text) => match draft.hit(text, count, line) {
-                Ok(()) => Ok(rest),
-                Err(_) => Err(Stop::Memory),
-            },
-            Err(_) => Err(Stop::Memory),
-        },
+        Ok(rest) => Ok(((count, line), rest)),
         Err(stop) => Err(stop),
     }
 }

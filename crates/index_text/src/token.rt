@@ -5,34 +5,28 @@ ghost use Rattle.index_text.specs.Numerals.{capped, leading_at, numeral_at};
 ghost use Rattle.index_text.specs.Steps.{Gives};
 
 use crate::fault::Stop;
+use exact_text as exact;
 
-/// Reads the word, and gives what follows it.
+/// Reads the word, and returns what follows it.
 pub fn word<'b>(bytes: &'b [u8], word: &[u8]) -> Result<&'b [u8], Stop>
     ensures { Gives (λ rest. rest.now) result (word_at word.now bytes.now) }
 {
-    if bytes.len() < word.len() {
-        return cut_word(bytes, word);
+    match exact::word(bytes, word) {
+        Ok(rest) => Ok(rest),
+        Err(exact::Stop::More) => Err(Stop::More),
+        Err(exact::Stop::Dead) => Err(Stop::Dead),
     }
-    for i in 0..word.len() {
-        if bytes[i] != word[i] {
-            return Err(Stop::Dead);
-        }
-    }
-    Ok(&bytes[word.len()..])
 }
 
-// The same of bytes that end within the word.
-#[cold]
-fn cut_word<'b>(bytes: &'b [u8], word: &[u8]) -> Result<&'b [u8], Stop>
-    requires { length bytes.now < length word.now }
-    ensures { Gives (λ rest. rest.now) result (word_at word.now bytes.now) }
+/// Reads a number from 1 on that fits 64 bits, and the byte that stops it.
+pub fn figure(bytes: &[u8], stop: u8) -> Result<(u64, &[u8]), Stop>
+    ensures { Gives (λ x. (x.0, x.1.now)) result (number_at 1 (2 ^ 64) stop bytes.now) }
 {
-    for i in 0..bytes.len() {
-        if bytes[i] != word[i] {
-            return Err(Stop::Dead);
-        }
+    match exact::long_number(bytes, 1, stop) {
+        Ok(read) => Ok(read),
+        Err(exact::Stop::More) => Err(Stop::More),
+        Err(exact::Stop::Dead) => Err(Stop::Dead),
     }
-    Err(Stop::More)
 }
 
 // Reads the first digit of a number from 1 on.
@@ -47,33 +41,6 @@ fn leading(bytes: &[u8]) -> Result<(u64, &[u8]), Stop>
         return Err(Stop::Dead);
     }
     Ok((u64::from(*first - b'0'), rest))
-}
-
-/// Reads a number from 1 on that fits 64 bits, and the byte that stops it.
-pub fn figure(bytes: &[u8], stop: u8) -> Result<(u64, &[u8]), Stop>
-    ensures { Gives (λ x. (x.0, x.1.now)) result (number_at 1 (2 ^ 64) stop bytes.now) }
-{
-    let (first, rest) = match leading(bytes) {
-        Ok(read) => read,
-        Err(stop) => return Err(stop),
-    };
-    let mut value = first;
-    let mut rest = rest;
-    while let [c, after @ ..] = rest {
-        if *c == stop {
-            return Ok((value, after));
-        }
-        if *c < b'0' || *c > b'9' || value == 0 {
-            return Err(Stop::Dead);
-        }
-        let digit = u64::from(*c - b'0');
-        if value > (u64::MAX - digit) / 10 {
-            return Err(Stop::Dead);
-        }
-        value = 10 * value + digit;
-        rest = after;
-    }
-    Err(Stop::More)
 }
 
 /// Reads a number from 1 on, and the byte that stops it. A number that doesn't fit 64 bits is read as the greatest that does.

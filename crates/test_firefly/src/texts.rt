@@ -5,7 +5,6 @@ use command_line::WordsFault;
 use exact_text::TextFault;
 use firefly_outside::{Failed, SinkFault, Text, TreeError};
 use index_find::QueryFault;
-use index_text::IndexFault;
 use indexer::IndexAnswer;
 use job_pool::PoolEnd;
 use larch_actions::Broken;
@@ -97,13 +96,7 @@ fn broken_rules(rt: HostRuntime) -> Result<(), Fail> {
 }
 
 #[test]
-fn faults_of_index_texts_queries_and_words(rt: HostRuntime) -> Result<(), Fail> {
-    let texts = [
-        (IndexFault::Memory, "out of memory"),
-        (IndexFault::BadLine(1), "bad line 1"),
-        (IndexFault::TooLong, "input too long"),
-        (IndexFault::Read, "input could not be read"),
-    ];
+fn faults_of_queries_and_words(rt: HostRuntime) -> Result<(), Fail> {
     let queries = [
         (QueryFault::Memory, "out of memory"),
         (QueryFault::NotAQuery, "the words are no query"),
@@ -112,7 +105,6 @@ fn faults_of_index_texts_queries_and_words(rt: HostRuntime) -> Result<(), Fail> 
         (WordsFault::Usage, "the words are no command"),
         (WordsFault::Memory, "out of memory"),
     ];
-    assert!(rt; print_so(rt, &texts)?);
     assert!(rt; print_so(rt, &queries)?);
     assert!(rt; print_so(rt, &words)?);
     Ok(())

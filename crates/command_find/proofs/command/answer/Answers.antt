@@ -15,5 +15,5 @@ pub returns-in-Err-clause-ends : goal.returns-in-Err-clause-ends
 returns-in-Err-clause-ends g c =
     let input = change_of g.I.Source.left g.I.Source.faults c.args.input.now c.read_index_within.new.input in
     let out = change_of g.O.Sink.held g.O.Sink.faults c.args.out.now c.args.out.now in
-    let notes = change_of g.N.Sink.held g.N.Sink.faults c.args.notes.now c.refused.new.notes in
-    refused c.args.most (tree_of c.args.query.now) input out notes c.refused.result c.in-Err.fault c.in-Err.ensures.fault (refl, refl) c.refused.ensures
+    let notes = change_of g.N.Sink.held g.N.Sink.faults c.args.notes.now c.ends_unread.new.notes in
+    refused c.args.most (tree_of c.args.query.now) input out notes c.ends_unread.result c.in-Err.fault c.in-Err.ensures.fault (refl, refl) c.ends_unread.ensures

@@ -1,28 +1,43 @@
-use Rattle.std.proofs.Common.{◌≤◌, arith, length}
-use Rattle.std.proofs.lemmas.Result.{IfOk-weaker, IfErr-weaker}
-use Rattle.index_text.proofs.Due.{read_all}
+use Rattle.std.proofs.Common.{◌∙◌, refl}
+use Rattle.exact_text.proofs.Told.{same_told, fault_told}
+use Rattle.index_text.proofs.Ordered.{ordered_rows}
+use Rattle.index_text.proofs.Wholes.{first_fault, text_fault, all_read}
 use Rattle.index_text.proofs.read.read_index_within.Goals as goal
 
-pub read_whole-requires-clause-few : goal.read_whole-requires-clause-few
-read_whole-requires-clause-few g c = rw c.deref.ensures.value (omega (arith, c.if-len-most.true, c.len.ensures))
+pub returns-in-Err-clause-fault : goal.returns-in-Err-clause-fault
+returns-in-Err-clause-fault g c =
+    let n = c.new-intake.ensures in
+    first_fault c.new-intake.result (g.I.Source.left c.args.input.now) c.args.most n.rest n.given n.budget n.lines c.fill.new.self (g.I.Source.left c.fill.new.input) (g.I.Source.faults c.args.input.now) (g.I.Source.faults c.fill.new.input) c.in-Err.fault c.in-Err.ensures.filled
 
-pub returns-then-len-most-clause-index : goal.returns-then-len-most-clause-index
-returns-then-len-most-clause-index g c =
-    let few : length c.in_ok-bytes.bytes.items ≤ c.args.most = omega (arith, c.if-len-most.true, c.len.ensures) in
-    IfOk-weaker c.read_whole.result _ _
-    (λ i r. read_all c.args.most (g.I.Source.left c.args.input.now) c.in_ok-bytes.bytes.items i.rows i.skipped few c.in_ok-bytes.ensures.bytes (rw c.deref.ensures.value at r))
-    c.read_whole.ensures.index
+pub returns-in-Err-clause-told : goal.returns-in-Err-clause-told
+returns-in-Err-clause-told g c = fault_told _ _ _ c.in-Err.fault refl c.in-Err.ensures.told
 
-pub returns-then-len-most-clause-fault : goal.returns-then-len-most-clause-fault
-returns-then-len-most-clause-fault g c =
-    IfErr-weaker c.read_whole.result _ _
-    (λ f due. (rw c.deref.ensures.value at due) (g.I.Source.left c.args.input.now) (g.I.Source.faults c.args.input.now) (g.I.Source.faults c.take_input.new.input) c.in_ok-bytes.ensures.bytes)
-    c.read_whole.ensures.fault
+pub finish-requires-clause-ended : goal.finish-requires-clause-ended
+finish-requires-clause-ended g c = c.in-Ok-take_rows.ensures.taken.2
 
-pub prefix_reason-requires-clause-many : goal.prefix_reason-requires-clause-many
-prefix_reason-requires-clause-many g c = rw c.deref-else-len-most.ensures.value (omega (arith, c.if-len-most.false, c.len.ensures))
+pub finish-requires-clause-ordered : goal.finish-requires-clause-ordered
+finish-requires-clause-ordered g c = ordered_rows c.take_rows.new.draft.rows c.in-Ok-take_rows.ensures.taken.0
+
+pub returns-in-Ok-finish-clause-index : goal.returns-in-Ok-finish-clause-index
+returns-in-Ok-finish-clause-index g c =
+    let n = c.new-intake.ensures in
+    let d = c.take_rows.new.draft in
+    let t = c.in-Ok-take_rows.ensures.taken in
+    let f = c.in-Ok-finish.ensures in
+    all_read c.new-intake.result (g.I.Source.left c.args.input.now) c.args.most n.rest n.given n.budget n.lines c.fill.new.self (g.I.Source.left c.fill.new.input) (g.I.Source.left c.take_rows.new.input) (g.I.Source.faults c.args.input.now) (g.I.Source.faults c.fill.new.input)
+    c.in-Ok.field-0 c.in-Ok.ensures.filled d.rows c.in-Ok-finish.index.rows d.skipped c.in-Ok-finish.index.skipped f.0 f.1 t.0 t.1 t.3
+
+pub returns-in-Ok-finish-clause-end : goal.returns-in-Ok-finish-clause-end
+returns-in-Ok-finish-clause-end g c = c.in-Ok-take_rows.ensures.taken.3.end
+
+pub returns-in-Ok-finish-clause-told : goal.returns-in-Ok-finish-clause-told
+returns-in-Ok-finish-clause-told g c = same_told _ _ _ (c.in-Ok-take_rows.ensures.told.unfailed ∙ c.in-Ok.ensures.told.unfailed)
 
 pub returns-clause-fault : goal.returns-clause-fault
 returns-clause-fault g c =
-    (rw c.deref-else-len-most.ensures.value at c.prefix_reason.ensures) (g.I.Source.left c.args.input.now) (g.I.Source.faults c.args.input.now) (g.I.Source.faults c.take_input.new.input)
-    c.in_ok-bytes.ensures.bytes
+    let n = c.new-intake.ensures in
+    text_fault c.new-intake.result (g.I.Source.left c.args.input.now) c.args.most n.rest n.given n.budget n.lines c.fill.new.self (g.I.Source.left c.fill.new.input) (g.I.Source.left c.take_rows.new.input) (g.I.Source.faults c.args.input.now) (g.I.Source.faults c.fill.new.input)
+    c.in-Ok.field-0 c.in-Ok.ensures.filled (g.I.Source.faults c.take_rows.new.input) c.in-Err-take_rows.fault c.in-Ok.ensures.told.unfailed c.in-Err-take_rows.ensures.taken
+
+pub returns-clause-told : goal.returns-clause-told
+returns-clause-told g c = fault_told _ _ _ c.in-Err-take_rows.fault c.in-Ok.ensures.told.unfailed c.in-Err-take_rows.ensures.told
