@@ -13,7 +13,7 @@ ghost use Rattle.nub.specs.Rest.{HasStored, IsOutside};
 
 use crossbeam_utils::Backoff;
 use larch_actions::{Action, Event, MutexId};
-use nub::{Look, begin_event, end_event, enter, is_patient, learn, leave, push, remove, sleep};
+use nub::{Look, begin_event, end_event, enter, learn, leave, may_spin, push, remove, sleep};
 use nub_rule::{
     Object, Package, Thread, Uses, Why, peek_bit, take_bit_quiet, test_again, try_bit, try_p,
 };
@@ -218,7 +218,7 @@ fn take_slowly<U: Uses, R: Wait>(rt: &R, p: &Package<U>, me: &mut Thread<U>, at:
         if left == 0 {
             // The bit is also tried again after a sleep: the thread that woke this one hasn't kept
             // the bit for it.
-            stand_in_line(rt, p, me, at, false);
+            enqueue_and_sleep(rt, p, me, at, false);
             slept = true;
             left = looks_of(me);
             backoff.reset();
@@ -255,14 +255,14 @@ pub fn take_quiet<U: Uses, R: Wait>(rt: &R, p: &Package<U>, me: &mut Thread<U>, 
         if take_bit_quiet(p, me, m) == 0 {
             return;
         }
-        stand_in_line(rt, p, me, at, false);
+        enqueue_and_sleep(rt, p, me, at, false);
     }
     unreachable!()
 }
 
 /// Returns how often the thread looks before it queues.
 fn looks_of<U: Uses>(me: &Thread<U>) -> u32 {
-    if is_patient(me, Look::Bit) { LOOKS } else { 0 }
+    if may_spin(me, Look::Bit) { LOOKS } else { 0 }
 }
 
 /// Looks briefly. If the thread hasn't slept yet, also learns whether the bit came clear meanwhile;
@@ -307,7 +307,7 @@ fn look_briefly<U: Uses>(p: &Package<U>, at: Object, looks: u32, backoff: &Backo
 /// bit, or until it is alerted.
 #[cold]
 #[inline(never)]
-pub fn stand_in_line<U: Uses, R: Wait>(
+pub fn enqueue_and_sleep<U: Uses, R: Wait>(
     rt: &R,
     p: &Package<U>,
     me: &mut Thread<U>,
