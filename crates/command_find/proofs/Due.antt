@@ -4,8 +4,8 @@ use Rattle.std.specs.Prelude.{IfSome}
 use Rattle.std.specs.declared.option.Option.{Option}
 use Rattle.std.proofs.lemmas.Bool.Decides.{eqb_tells}
 use Rattle.std.proofs.lemmas.List.{take_all, append-nil}
-use Rattle.trace_core.specs.Prefixes.{Begins, first_lines, IsBrokenAt}
-use Rattle.trace_core.specs.Intake.{IsShown}
+use Rattle.exact_text.specs.Prefixes.{Begins, first_lines, IsBrokenAt}
+use Rattle.exact_text.specs.Exact.{IsShown}
 use Rattle.index_text.specs.Texts.{ReadsAs, IsIndexText}
 use Rattle.index_text.specs.declared.fault.IndexFault.TheVariants as fault
 use Rattle.word_index.specs.Index.{Row}

@@ -1,8 +1,8 @@
 -- What the command `find` answers.
 use Rattle.std.specs.Prelude.{◌≡◌, ◌≢◌, ◌⊎◌, ℕ, ◌<◌, ◌≤◌, List, length, take, Some, IfSome}
 use Rattle.word_index.specs.Index.{Row}
-use Rattle.trace_core.specs.Prefixes.{Begins}
-use Rattle.trace_core.specs.Intake.{IsShown}
+use Rattle.exact_text.specs.Prefixes.{Begins}
+use Rattle.exact_text.specs.Exact.{IsShown}
 use Rattle.index_text.specs.declared.fault.IndexFault.{IndexFault}
 use Rattle.index_text.specs.declared.fault.IndexFault.TheVariants as fault
 use Rattle.index_text.specs.Texts.{ReadsAs, IsIndexText}

@@ -8,9 +8,9 @@ use Rattle.std.proofs.Math.Seq.{drop-cons}
 use Rattle.std.proofs.lemmas.Str.{IsUtf8-from_is_utf8, is_utf8-from_IsUtf8}
 use Rattle.std.specs.List.{AllByRecursion}
 use Rattle.std.proofs.lemmas.List.{take_all, length-drop, take-append-drop}
-use Rattle.trace_core.specs.declared.line.Stop.{Stop}
-use Rattle.trace_core.specs.declared.line.Stop.TheVariants.{More, Dead}
-use Rattle.trace_core.specs.Reading.{◌>>=◌}
+use Rattle.exact_text.specs.declared.stop.Stop.{Stop}
+use Rattle.exact_text.specs.declared.stop.Stop.TheVariants.{More, Dead}
+use Rattle.exact_text.specs.Reading.{◌>>=◌}
 use Rattle.index_text.specs.Lines.{is_prefix, unescaped, put, token_from, path_at, path_of, prefix_of, plain, is_path, is_path_prefix, is_no_newline, is_above}
 use Rattle.index_text.proofs.Tokens.{either_bool, token_over}
 use Rattle.index_text.proofs.Escaping.{before}

@@ -2,8 +2,8 @@
 use Rattle.std.proofs.Common.{◌≡◌, inl, inr, ℕ, ◌-◌, ◌<◌, ◌≤◌, List, [], length, take, Option, Some, None, IfSome, arith, sym, subst, ap, ◌∙◌, append-nil}
 use Rattle.std.proofs.lemmas.List.{take_all, length-append}
 use Rattle.std.proofs.Math.Seq.{take-append-le}
-use Rattle.trace_core.specs.Prefixes.{Begins, IsBrokenAt, IsCutShortAt}
-use Rattle.trace_core.specs.Intake.{IsShown}
+use Rattle.exact_text.specs.Prefixes.{Begins, IsBrokenAt, IsCutShortAt}
+use Rattle.exact_text.specs.Exact.{IsShown}
 use Rattle.word_index.specs.Index.{Row}
 use Rattle.index_text.specs.declared.fault.IndexFault.TheVariants.{TooLong}
 use Rattle.index_text.specs.declared.fault.Halt.{Halt}

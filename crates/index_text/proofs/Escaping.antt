@@ -6,8 +6,8 @@ use Rattle.std.specs.List.{AllByRecursion}
 use Rattle.std.proofs.lemmas.Bool.{eqb-true, eq-eqb}
 use Rattle.std.proofs.lemmas.Bool.Decides.{eqb_tells}
 use Rattle.text_output.specs.Paths.{escaped}
-use Rattle.trace_core.proofs.Words.{chosen}
-use Rattle.trace_core.proofs.Grammar.{IsFlat}
+use Rattle.exact_text.proofs.Words.{chosen}
+use Rattle.exact_text.specs.Prefixes.{IsFlat}
 use Rattle.index_text.specs.Lines.{unescaped, put, is_no_newline}
 
 abbrev pub before : List ℕ → Option (List ℕ) → Option (List ℕ)

@@ -3,9 +3,9 @@ use Rattle.std.proofs.Common.{◌≡◌, ℕ, ◌+◌, ◌-◌, ◌<◌, Bool, t
 use Rattle.std.specs.Prelude.{◌&&◌}
 use Rattle.std.specs.List.{AllByRecursion}
 use Rattle.std.proofs.lemmas.Bool.{eq-eqb, ne_eqb}
-use Rattle.trace_core.specs.declared.line.Stop as trace
-use Rattle.trace_core.specs.declared.line.Stop.TheVariants as stops
-use Rattle.trace_core.specs.Reading.{◌>>=◌}
+use Rattle.exact_text.specs.declared.stop.Stop as trace
+use Rattle.exact_text.specs.declared.stop.Stop.TheVariants as stops
+use Rattle.exact_text.specs.Reading.{◌>>=◌}
 use Rattle.index_text.specs.declared.fault.Stop.{Stop}
 use Rattle.index_text.specs.declared.fault.Stop.TheVariants.{Memory, More, Dead}
 use Rattle.index_text.specs.Texts.{is_key_byte}

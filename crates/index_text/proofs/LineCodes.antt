@@ -1,10 +1,10 @@
 -- The lines of an index text, read exactly.
 use Rattle.std.proofs.Common.{◌≡◌, ◌⊎◌, inl, inr, ℕ, ◌^◌, ◌<◌, ◌≤◌, List, [], ◌∷◌, ◌++◌, arith, refl, sym, ap, ◌∙◌, append_assoc, Option, None, Err}
 use Rattle.std.specs.Prelude.{codes, decimal}
-use Rattle.trace_core.specs.declared.line.Stop.TheVariants.{Dead}
-use Rattle.trace_core.specs.Codes.{IsCode}
-use Rattle.trace_core.proofs.CodeLaws.{then_code, as_code, or_code, same_code, word_code, AreApart}
-use Rattle.trace_core.proofs.Numbers.{number_code}
+use Rattle.exact_text.specs.declared.stop.Stop.TheVariants.{Dead}
+use Rattle.exact_text.specs.Codes.{IsCode}
+use Rattle.exact_text.proofs.CodeLaws.{then_code, as_code, or_code, same_code, word_code, AreApart}
+use Rattle.exact_text.proofs.Numbers.{number_code}
 use Rattle.text_output.specs.Paths.{escaped, newline}
 use Rattle.index_print.specs.Text.{hit_line, skipped_line}
 use Rattle.index_text.specs.Numerals.{numeral}

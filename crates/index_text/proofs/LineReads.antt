@@ -1,10 +1,10 @@
 -- Lines read part by part.
 use Rattle.std.proofs.Common.{◌≡◌, ℕ, ◌^◌, List, inl, inr, refl, sym, ap, ◌∙◌, Ok, Err, Option, None}
 use Rattle.std.specs.Prelude.{codes}
-use Rattle.trace_core.specs.declared.line.Stop as trace
-use Rattle.trace_core.specs.declared.line.Stop.TheVariants as stops
-use Rattle.trace_core.specs.Reading.{Reader, as_value, word_at, number_at}
-use Rattle.trace_core.proofs.CodeLaws.{bind_err, bind_ok, ok_injective}
+use Rattle.exact_text.specs.declared.stop.Stop as trace
+use Rattle.exact_text.specs.declared.stop.Stop.TheVariants as stops
+use Rattle.exact_text.specs.Reading.{Reader, as_value, word_at, number_at}
+use Rattle.exact_text.proofs.CodeLaws.{bind_err, bind_ok, ok_injective}
 use Rattle.word_index.specs.Index.{Hit}
 use Rattle.index_text.specs.declared.fault.Stop.{Stop}
 use Rattle.index_text.specs.declared.fault.Stop.TheVariants.{Memory, More, Dead}

@@ -1,11 +1,12 @@
 -- Line after line of an index text.
 use Rattle.std.proofs.Common.{◌≡◌, ◌⊎◌, ℕ, zero, suc, ◌+◌, ◌-◌, ◌<◌, List, [], ◌∷◌, ◌++◌, length, arith, refl, sym, ap, subst, ◌∙◌, append_assoc, append-nil, length-append, Option, Some, None, Err, slice_get, Result}
 use Rattle.std.specs.List.{flat_map}
-use Rattle.trace_core.specs.declared.line.Stop as trace
-use Rattle.trace_core.specs.declared.line.Stop.TheVariants as stops
-use Rattle.trace_core.specs.Codes.{IsCode}
-use Rattle.trace_core.specs.Prefixes.{IsBrokenAt, IsCutShortAt}
-use Rattle.trace_core.proofs.Grammar.{Unfolds, broken, cut_short, broken_behind, cut_short_behind}
+use Rattle.exact_text.specs.declared.stop.Stop as trace
+use Rattle.exact_text.specs.declared.stop.Stop.TheVariants as stops
+use Rattle.exact_text.specs.Codes.{IsCode}
+use Rattle.exact_text.specs.Prefixes.{IsBrokenAt, IsCutShortAt}
+use Rattle.exact_text.specs.Unfolds.{Unfolds}
+use Rattle.exact_text.proofs.Grammar.{broken, cut_short, broken_behind, cut_short_behind}
 use Rattle.word_index.specs.Index.{Hit, Row}
 use Rattle.index_print.specs.Text.{hit_line, skipped_line}
 use Rattle.index_table.specs.Rows.{paths_of, words_of}

@@ -4,10 +4,10 @@ use Rattle.std.proofs.lemmas.Bool.{eqb-true, eq-eqb}
 use Rattle.std.proofs.lemmas.Bool.Decides.{nat_tests}
 use Rattle.std.proofs.lemmas.Fmt.{decimal_by_steps}
 use Rattle.std.specs.Prelude.{◌==◌, nat_lt, decimal}
-use Rattle.trace_core.specs.declared.line.Stop.TheVariants.{More, Dead}
-use Rattle.trace_core.proofs.Words.{chosen}
-use Rattle.trace_core.proofs.CodeLaws.{ok_injective}
-use Rattle.trace_core.specs.Codes.{IsCode}
+use Rattle.exact_text.specs.declared.stop.Stop.TheVariants.{More, Dead}
+use Rattle.exact_text.proofs.Words.{chosen}
+use Rattle.exact_text.proofs.CodeLaws.{ok_injective}
+use Rattle.exact_text.specs.Codes.{IsCode}
 use Rattle.index_text.specs.Numerals.{digits_in, numeral, is_digit, is_leading, digits_from, leading_at, numeral_at}
 
 -- one digit, or one more behind those of a tenth

@@ -1,9 +1,9 @@
 -- A text reads as one index only.
 use Rattle.std.proofs.Common.{◌≡◌, ℕ, List, [], ◌∷◌, ◌++◌, length, arith, refl, sym, ap, subst, ◌∙◌, append_assoc, length-append, Option, Some, None, Result}
 use Rattle.std.specs.List.{flat_map}
-use Rattle.trace_core.specs.declared.line.Stop.{Stop}
-use Rattle.trace_core.specs.Codes.{IsCode}
-use Rattle.trace_core.proofs.CodeLaws.{ok_injective}
+use Rattle.exact_text.specs.declared.stop.Stop.{Stop}
+use Rattle.exact_text.specs.Codes.{IsCode}
+use Rattle.exact_text.proofs.CodeLaws.{ok_injective}
 use Rattle.word_index.specs.Index.{Hit, Row}
 use Rattle.index_print.specs.Text.{hit_line, skipped_line}
 use Rattle.index_text.specs.Texts.{AreHits, AreRows, ArePaths, ReadsAs, word_line, row_text, text_of}

@@ -8,8 +8,8 @@ use Rattle.std.proofs.lemmas.Str.{IsUtf8-append, IsUtf8-from_is_utf8, is_utf8-fr
 use Rattle.std.proofs.lemmas.Bool.Decides.{nat_tests, eqb_tells}
 use Rattle.std.proofs.lemmas.List.{take_at}
 use lib.Utf8
-use Rattle.trace_core.specs.Codes.{IsCode}
-use Rattle.trace_core.proofs.CodeLaws.{as_code}
+use Rattle.exact_text.specs.Codes.{IsCode}
+use Rattle.exact_text.proofs.CodeLaws.{as_code}
 use Rattle.text_output.specs.Paths.{escaped, newline}
 use Rattle.word_index.specs.Index.{IsBelow}
 use Rattle.index_text.specs.Texts.{IsPath, IsAbove}

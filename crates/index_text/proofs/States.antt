@@ -3,8 +3,10 @@ use Rattle.std.proofs.Common.{◌≡◌, ◌⊎◌, inl, inr, ℕ, zero, suc, �
 use Rattle.std.specs.Prelude.{codes, decimal}
 use Rattle.std.specs.List.{flat_map}
 use Rattle.std.proofs.lemmas.Fmt.{decimal_by_steps}
-use Rattle.trace_core.specs.Prefixes.{first_lines, IsBrokenAt, IsCutShortAt}
-use Rattle.trace_core.proofs.Grammar.{Unfolds, IsFlat, IsFlat-append, IsLine}
+use Rattle.exact_text.specs.Prefixes.{first_lines, IsBrokenAt, IsCutShortAt}
+use Rattle.exact_text.specs.Unfolds.{Unfolds}
+use Rattle.exact_text.specs.Prefixes.{IsFlat, IsLine}
+use Rattle.exact_text.proofs.Grammar.{IsFlat-append}
 use Rattle.text_output.specs.Paths.{escaped, newline}
 use Rattle.word_index.specs.Index.{Hit, Row}
 use Rattle.index_print.specs.Text.{hit_line, skipped_line}

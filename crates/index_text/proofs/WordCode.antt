@@ -7,8 +7,8 @@ use Rattle.std.specs.declared.cmp.Ordering.TheVariants.{Less, Equal, Greater}
 use Rattle.std.specs.Cmp.Lexicographic.{slice_cmp}
 use Rattle.std.proofs.lemmas.Bool.Decides.{nat_tests}
 use Rattle.std.proofs.Math.Seq.{drop-append_seam}
-use Rattle.trace_core.specs.Codes.{IsCode}
-use Rattle.trace_core.proofs.CodeLaws.{same_code}
+use Rattle.exact_text.specs.Codes.{IsCode}
+use Rattle.exact_text.proofs.CodeLaws.{same_code}
 use Rattle.word_index.specs.Index.{IsBelow}
 use Rattle.index_text.specs.Texts.{is_key_byte, IsWord, IsAbove}
 use Rattle.index_text.specs.Lines.{is_good_word, may_be_word, key_at, is_above, is_prefix}

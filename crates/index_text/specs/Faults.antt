@@ -2,8 +2,8 @@
 use Rattle.std.specs.Prelude.{◌≡◌, ◌≢◌, ℕ, ◌<◌, ◌≤◌, ◌^◌, List, length, take, IfErr, IfSome, OnOk, Result}
 use Rattle.std.specs.declared.option.Option.{Option}
 use Rattle.firefly_outside.specs.Causes.{Rose}
-use Rattle.trace_core.specs.Prefixes.{Begins}
-use Rattle.trace_core.specs.Intake.{IsShown}
+use Rattle.exact_text.specs.Prefixes.{Begins}
+use Rattle.exact_text.specs.Exact.{IsShown}
 use Rattle.index_text.specs.declared.fault.IndexFault.{IndexFault}
 use Rattle.index_text.specs.declared.fault.IndexFault.TheVariants.{Memory, BadLine, TooLong, Read}
 use Rattle.index_text.specs.declared.fault.Halt.{Halt}

@@ -5,8 +5,8 @@ use Rattle.std.specs.Option.{option_map, unwrap_or}
 use Rattle.std.specs.Ordering.{nat_cmp, is_lt}
 use Rattle.std.specs.Cmp.Lexicographic.{slice_cmp}
 use Rattle.std.specs.Str.{is_utf8}
-use Rattle.trace_core.specs.declared.line.Stop.TheVariants.{More, Dead}
-use Rattle.trace_core.specs.Reading.{Reader, after_word, both, as_value, either, number_at}
+use Rattle.exact_text.specs.declared.stop.Stop.TheVariants.{More, Dead}
+use Rattle.exact_text.specs.Reading.{Reader, after_word, both, as_value, either, number_at}
 use Rattle.word_index.specs.Index.{Hit}
 use Rattle.index_text.specs.Numerals.{numeral_at, capped}
 use Rattle.index_text.specs.Texts.{is_key_byte}

@@ -1,7 +1,7 @@
 -- Numbers of any size, in decimal digits.
 use Rattle.std.specs.Prelude.{ℕ, zero, suc, ◌+◌, ◌-◌, ◌*◌, ◌/◌, ◌%◌, ◌^◌, min, ◌==◌, nat_lt, nat_le, Bool, ◌&&◌, List, [], ◌∷◌, ◌++◌, if◌then◌else◌, Ok, Err}
-use Rattle.trace_core.specs.declared.line.Stop.TheVariants.{More, Dead}
-use Rattle.trace_core.specs.Reading.{Reader}
+use Rattle.exact_text.specs.declared.stop.Stop.TheVariants.{More, Dead}
+use Rattle.exact_text.specs.Reading.{Reader}
 
 -- the digits of a number, for which so many turns are enough
 unfoldable pub digits_in : ℕ → ℕ → List ℕ

@@ -2,9 +2,9 @@
 use Rattle.std.specs.Prelude.{◌≡◌, ℕ, Bool, true, take, ◌-◌, ◌<◌, List, [], ◌∷◌, ◌++◌, length, slice_get, Option, Some, None, Result, Ok, Err}
 use Rattle.std.specs.Borrow.{Bor}
 use Rattle.std.specs.List.{flat_map, AllByRecursion}
-use Rattle.trace_core.specs.declared.line.Stop as trace
-use Rattle.trace_core.specs.declared.line.Stop.TheVariants as stops
-use Rattle.trace_core.specs.Prefixes.{IsBrokenAt, IsCutShortAt}
+use Rattle.exact_text.specs.declared.stop.Stop as trace
+use Rattle.exact_text.specs.declared.stop.Stop.TheVariants as stops
+use Rattle.exact_text.specs.Prefixes.{IsBrokenAt, IsCutShortAt}
 use Rattle.word_index.specs.Index.{Hit, Row}
 use Rattle.index_print.specs.Text.{hit_line, skipped_line}
 use Rattle.index_table.specs.Rows.{Drafted, paths_of, words_of}

@@ -1,7 +1,7 @@
 //! The lines of an index text.
 ghost use Rattle.std.specs.Prelude.{◌≡◌, ◌∷◌, ◌++◌, [], OnOk};
 ghost use Rattle.std.specs.Option.{option_copied};
-ghost use Rattle.trace_core.specs.Reading.{as_value};
+ghost use Rattle.exact_text.specs.Reading.{as_value};
 ghost use Rattle.index_text.specs.Lines.{capped_heading, capped_line, heading_at, key_line_at, skipped_at, hit_prefix_at};
 ghost use Rattle.index_text.specs.Steps.{Gives, TakesHit, TakesSkipped, heading_of};
 

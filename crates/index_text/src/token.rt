@@ -1,6 +1,6 @@
 //! Words that are known, and numbers.
 ghost use Rattle.std.specs.Prelude.{◌≡◌, ◌<◌, ◌^◌, length};
-ghost use Rattle.trace_core.specs.Reading.{as_value, word_at, number_at};
+ghost use Rattle.exact_text.specs.Reading.{as_value, word_at, number_at};
 ghost use Rattle.index_text.specs.Numerals.{capped, leading_at, numeral_at};
 ghost use Rattle.index_text.specs.Steps.{Gives};
 

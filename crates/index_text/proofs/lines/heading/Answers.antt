@@ -1,6 +1,6 @@
 use Rattle.std.proofs.Common.{subst}
 use Rattle.std.specs.Option.{option_copied}
-use Rattle.trace_core.specs.Reading.{as_value}
+use Rattle.exact_text.specs.Reading.{as_value}
 use Rattle.index_text.specs.Lines.{capped_line, key_line_at}
 use Rattle.index_text.specs.Steps.{Stops}
 use Rattle.index_text.proofs.LineReads.{heading_asks, heading_is_skipped, heading_is_word, heading_stops}

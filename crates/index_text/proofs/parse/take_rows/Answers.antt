@@ -1,6 +1,6 @@
 use Rattle.std.proofs.Common.{◌≡◌, subst, arith, Ok, List, ℕ, ◌++◌, ◌∷◌, []}
 use Rattle.index_text.specs.declared.lines.Prefix.{Prefix}
-use Rattle.trace_core.specs.Reading.{as_value}
+use Rattle.exact_text.specs.Reading.{as_value}
 use Rattle.index_text.specs.Lines.{word, skipped, heading_at, capped_heading}
 use Rattle.index_text.specs.Steps.{Stops, heading_of, last_word}
 use Rattle.index_text.proofs.LineReads.{skipped_read, under_stops, word_read}

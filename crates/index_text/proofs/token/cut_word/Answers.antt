@@ -1,5 +1,5 @@
 use Rattle.std.proofs.Common.{◌∙◌, arith}
-use Rattle.trace_core.proofs.Words.{word_at-short, word_step}
+use Rattle.exact_text.proofs.Words.{word_at-short, word_step}
 use Rattle.index_text.proofs.token.cut_word.Goals as goal
 
 pub returns : goal.returns

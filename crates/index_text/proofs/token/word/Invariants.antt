@@ -1,5 +1,5 @@
 use Rattle.std.proofs.Common.{◌≡◌, ◌≤◌, drop, length}
-use Rattle.trace_core.specs.Reading.{word_at}
+use Rattle.exact_text.specs.Reading.{word_at}
 use Rattle.index_text.proofs.token.word.Given as goal
 
 abbrev pub invariant-loop-i : goal.invariant-loop-i
