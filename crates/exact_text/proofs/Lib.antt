@@ -8,5 +8,6 @@ pub mod Filled
 pub mod Grammar
 pub mod Flat
 pub mod Stuck
+pub mod Texts
 pub mod Shown
 pub mod LinesOf

@@ -11,8 +11,8 @@ use Rattle.larch_actions.specs.declared.event.Action.{Action}
 use Rattle.larch_actions.specs.declared.event.Action.TheVariants.{Acquire, Release, Enqueue, Resume, AlertEnqueue, AlertReturn, AlertRaise}
 use Rattle.larch_actions.specs.Layout.{IsLawful, HasNames, IsNamed}
 use Rattle.larch_actions.specs.Actions.{Spec, Acts, IsRun, at_first}
-use Rattle.trace_core.specs.declared.intake.TextFault.{TextFault}
-use Rattle.trace_core.specs.declared.intake.TextFault.TheVariants as fault
+use Rattle.exact_text.specs.declared.fault.TextFault.{TextFault}
+use Rattle.exact_text.specs.declared.fault.TextFault.TheVariants as fault
 use Rattle.trace_check.specs.declared.checker.Summary.{Summary}
 use Rattle.trace_check.specs.declared.checker.Verdict.{Verdict}
 use Rattle.trace_check.specs.declared.checker.Verdict.TheVariants.{Legal}
@@ -50,6 +50,7 @@ never_legal : (s : Summary) (f : TextFault) → Legal s ≡ refusal f → ⊥
 never_legal s (fault.BadLine k) e = subst is_legal e tt
 never_legal s fault.TooLong e = subst is_legal e tt
 never_legal s fault.Read e = subst is_legal e tt
+never_legal s fault.Memory e = subst is_legal e tt
 
 -- of a legal trace it is kept what it nests
 pub noted_of : {W : Type 0} (keeps : W → Layout → List Event → W → Type 0) (budget : ℕ) (left : Option (List ℕ)) (w : W) (layout : Option Layout) (failed : Option Event) (s : Summary) (w' : W) (k : Nestings)

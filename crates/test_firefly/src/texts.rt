@@ -14,7 +14,6 @@ use std::alloc::AllocError;
 use std::fmt::Display;
 use std::test::Fail;
 use thread_crew::NotRun;
-use trace_core::TextFault as TraceFault;
 use walker::WalkAnswer;
 use word_index::Piece;
 
@@ -74,19 +73,13 @@ fn faults_of_sources_sinks_and_trees(rt: HostRuntime) -> Result<(), Fail> {
 }
 
 #[test]
-fn faults_of_traces_and_scripts(rt: HostRuntime) -> Result<(), Fail> {
-    let traces = [
-        (TraceFault::BadLine(3), "bad line 3"),
-        (TraceFault::TooLong, "input too long"),
-        (TraceFault::Read, "input could not be read"),
-    ];
+fn faults_of_scripts(rt: HostRuntime) -> Result<(), Fail> {
     let scripts = [
         (ScriptFault::Memory, "out of memory"),
         (ScriptFault::BadLine(100001), "bad line 100001"),
         (ScriptFault::TooLong, "input too long"),
         (ScriptFault::Read, "input could not be read"),
     ];
-    assert!(rt; print_so(rt, &traces)?);
     assert!(rt; print_so(rt, &scripts)?);
     Ok(())
 }
@@ -126,7 +119,7 @@ fn faults_of_index_texts_queries_and_words(rt: HostRuntime) -> Result<(), Fail> 
 }
 
 #[test]
-fn faults_of_jobs(rt: HostRuntime) -> Result<(), Fail> {
+fn faults_of_texts_and_pools(rt: HostRuntime) -> Result<(), Fail> {
     let texts = [
         (TextFault::Memory, "out of memory"),
         (

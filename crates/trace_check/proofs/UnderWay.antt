@@ -10,18 +10,23 @@ use Rattle.larch_actions.specs.declared.event.Broken.{Broken}
 use Rattle.larch_actions.specs.Layout.{IsLawful, HasNames}
 use Rattle.larch_actions.specs.Actions.{Spec, Acts, Fails, IsRun, at_first}
 use Rattle.larch_actions.specs.State.{Moment, spec_of, held, waiting, alerted}
-use Rattle.trace_core.specs.declared.intake.TextFault.{TextFault}
-use Rattle.trace_core.specs.declared.intake.TextFault.TheVariants as fault
+use Rattle.exact_text.specs.declared.fault.TextFault.{TextFault}
+use Rattle.exact_text.specs.declared.fault.TextFault.TheVariants as fault
 use Rattle.trace_core.specs.declared.reader_state.Phase.TheVariants as phase
 use Rattle.trace_core.specs.declared.line.Line.TheVariants as line
 use Rattle.trace_core.specs.declared.line.Expect.TheVariants as expect
-use Rattle.trace_core.specs.Prefixes.{Begins}
-use Rattle.trace_core.specs.Intake.{IsShown, HasReason, Misses, LacksAt}
+use Rattle.exact_text.specs.Prefixes.{Begins}
+use Rattle.exact_text.specs.Exact.{IsShown, HasReason, bytes_room}
+use Rattle.trace_core.specs.Lacking.{Misses, LacksAt}
 use Rattle.trace_core.specs.Made.{IsMade}
 use Rattle.trace_core.specs.Standing.{Standing}
 use Rattle.trace_core.specs.Steps.{TakesHead, TakesEvent, TakesEnd, Breaks}
 use Rattle.trace_core.specs.Text.{first_line, layout_line, head_text, event_line, end_line, values_text, rest_text, trace_text, IsTrace, IsRest}
-use Rattle.trace_core.proofs.Outcomes.{reason_behind, Consumes-trans, take_behind}
+use Rattle.exact_text.proofs.Texts.{reason_behind}
+use Rattle.trace_core.proofs.LineLaws.{line_code}
+use Rattle.trace_core.proofs.Texts.{line_grammar}
+use Rattle.std.proofs.KnownBytes.{Consumes-trans}
+use Rattle.exact_text.proofs.Stuck.{take_behind}
 use Rattle.trace_core.specs.Whole.{event_lines}
 use Rattle.trace_check.specs.Verdicts.{prefix_text, NoFault, IsCutOff, refusal, IsJust, IsPrefixText, IsLegalText, IsIllegalText}
 use Rattle.trace_check.specs.declared.checker.Summary.{Summary}
@@ -42,8 +47,8 @@ pub record IsUnderWay (budget : ℕ) (left₀ : Option (List ℕ)) (before : ℕ
   pub place : st.place ≡ count
   pub read : Consumes left₀ st.rest (prefix_text st.layout events)
   pub room : st.room + length (prefix_text st.layout events) ≡ budget
-  pub reasons : (left' : Option (List ℕ)) (after : ℕ) (f : TextFault) → HasReason (IsRest st.layout st.place) st.lines st.room st.rest left' now after f
-      → HasReason IsTrace 0 budget left₀ left' before after f
+  pub reasons : (left' : Option (List ℕ)) (after : ℕ) (f : TextFault) → HasReason (IsRest st.layout st.place) (bytes_room st.room) st.lines st.rest left' now after f
+      → HasReason IsTrace (bytes_room budget) 0 left₀ left' before after f
 
 -- the count of events is within the budget
 pub few : (budget : ℕ) (left₀ : Option (List ℕ)) (before : ℕ) (st : Standing) (now : ℕ) (m : Moment) (count : ℕ) → IsUnderWay budget left₀ before st now m count → count ≤ budget
@@ -88,7 +93,7 @@ step_on budget left₀ before now now' p p' m m' count e fits u t a same le =
       room = rw t.layout r.1;
       reasons = λ left'' after f h.
           u.reasons left'' after f
-          (reason_behind (expect.Events p.layout p.place) (possible budget left₀ before p now m count fits u) (line.Event e) (t.names, t.made) p.rest p'.rest left'' p.lines p.room p'.room now now' after f t.passes.bytes t.passes.room le
+          (reason_behind (line_grammar (expect.Events p.layout p.place) (possible budget left₀ before p now m count fits u)) (line_code (expect.Events p.layout p.place) (possible budget left₀ before p now m count fits u)) (line.Event e) (t.names, t.made) p.rest p'.rest left'' p.lines p.room p'.room now now' after f t.passes.bytes t.passes.room le
           (rw (t.layout, t.place, t.passes.lines) at h));
     }
 
@@ -195,7 +200,7 @@ cut_off bytes None given given' a b = absurd a
 cut_off bytes (Some ys) given given' a b = append_cancel_right given given' ys (sym a ∙ b)
 
 read_just : (budget : ℕ) (left₀ left' : Option (List ℕ)) (before now' : ℕ) (p : Standing) (now : ℕ) (m : Moment) (count : ℕ) → budget < 2 ^ 64 - 1
-    → IsUnderWay budget left₀ before p now m count → HasReason IsTrace 0 budget left₀ left' before now' fault.Read
+    → IsUnderWay budget left₀ before p now m count → HasReason IsTrace (bytes_room budget) 0 left₀ left' before now' fault.Read
     → LacksAt (HasNames p.layout) (event_line p.place) p.room p.rest left' fault.Read → IsJust budget left₀ left' before now' (refusal fault.Read)
 read_just budget None left' before now' p now m count fits u h l = (h.0, tt)
 read_just budget (Some bytes) left' before now' p now m count fits u h l =
@@ -207,6 +212,7 @@ read_just budget (Some bytes) left' before now' p now m count fits u h l =
 
 pub fault_on : (budget : ℕ) (left₀ left' : Option (List ℕ)) (before now now' : ℕ) (p p' : Standing) (m : Moment) (count : ℕ) (f : TextFault) → budget < 2 ^ 64 - 1
     → IsUnderWay budget left₀ before p now m count → Breaks (IsRest p.layout p.place) (HasNames p.layout) (event_line p.place) p p' left' now now' f → IsJust budget left₀ left' before now' (refusal f)
+fault_on budget left₀ left' before now now' p p' m count fault.Memory fits u b = absurd b.reason
 fault_on budget left₀ left' before now now' p p' m count (fault.BadLine k) fits u b = bad_just budget left₀ k (u.reasons left' now' (fault.BadLine k) b.reason).1 (within_budget budget left₀ before now p m count fits u b.lacks)
 fault_on budget left₀ left' before now now' p p' m count fault.TooLong fits u b = long_just budget left₀ (u.reasons left' now' fault.TooLong b.reason) (within_budget budget left₀ before now p m count fits u b.lacks)
 fault_on budget left₀ left' before now now' p p' m count fault.Read fits u b = read_just budget left₀ left' before now' p now m count fits u (u.reasons left' now' fault.Read b.reason) b.lacks
@@ -219,14 +225,15 @@ no_head : (budget : ℕ) (left₀ : Option (List ℕ)) → IfSome left₀ (λ in
 no_head budget None h = tt
 no_head budget (Some bytes) h = headless (take budget bytes) h
 
-cut_in_head : (left₀ left' : Option (List ℕ)) (before now : ℕ) (budget : ℕ) → HasReason IsTrace 0 budget left₀ left' before now fault.Read
+cut_in_head : (left₀ left' : Option (List ℕ)) (before now : ℕ) (budget : ℕ) → HasReason IsTrace (bytes_room budget) 0 left₀ left' before now fault.Read
     → LacksAt IsLawful head_text budget left₀ left' fault.Read → IfSome left₀ (λ bytes. IsCutOff budget bytes left')
 cut_in_head None left' before now budget h l = tt
 cut_in_head (Some bytes) left' before now budget h l =
     let same : l.0 ≡ h.1.0 = cut_off bytes left' l.0 h.1.0 l.1 h.1.1 in
     (h.1.0, h.1.1, h.1.2, h.1.3, subst NoFault same (headless l.0 l.2))
 
-pub head_fault : (budget : ℕ) (left₀ left' : Option (List ℕ)) (before now : ℕ) (f : TextFault) → HasReason IsTrace 0 budget left₀ left' before now f → LacksAt IsLawful head_text budget left₀ left' f → IsJust budget left₀ left' before now (refusal f)
+pub head_fault : (budget : ℕ) (left₀ left' : Option (List ℕ)) (before now : ℕ) (f : TextFault) → HasReason IsTrace (bytes_room budget) 0 left₀ left' before now f → LacksAt IsLawful head_text budget left₀ left' f → IsJust budget left₀ left' before now (refusal f)
+head_fault budget left₀ left' before now fault.Memory h l = absurd h
 head_fault budget left₀ left' before now (fault.BadLine k) h l = bad_just budget left₀ k h.1 (no_head budget left₀ l)
 head_fault budget left₀ left' before now fault.TooLong h l = long_just budget left₀ h (no_head budget left₀ l)
 head_fault budget left₀ left' before now fault.Read h l = (h.0, cut_in_head left₀ left' before now budget h l)
@@ -282,6 +289,6 @@ starts_on budget left₀ before now p p' l m rest room lines t le laid first =
       reasons = λ left'' after f h.
           let k = rw (t.layout, t.place, t.passes.lines ∙ ap (λ n. n + 2) lines) at h in
           let room₁ = p'.room + length (layout_line l) in
-          let laid = reason_behind (expect.Counts l.version) tt (line.Counts l) (t.lawful, refl) split.0 p'.rest left'' 1 room₁ p'.room now now after f split.2 refl (omega arith) k in
-          reason_behind expect.Head tt (line.Head l.version) tt left₀ split.0 left'' 0 budget room₁ before now after f split.1 (omega (arith, size, sum)) le laid;
+          let laid = reason_behind (line_grammar (expect.Counts l.version) tt) (line_code (expect.Counts l.version) tt) (line.Counts l) (t.lawful, refl) split.0 p'.rest left'' 1 room₁ p'.room now now after f split.2 refl (omega arith) k in
+          reason_behind (line_grammar expect.Head tt) (line_code expect.Head tt) (line.Head l.version) tt left₀ split.0 left'' 0 budget room₁ before now after f split.1 (omega (arith, size, sum)) le laid;
     }

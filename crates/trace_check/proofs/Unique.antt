@@ -12,10 +12,11 @@ use Rattle.larch_actions.specs.Layout.{IsLawful, HasNames}
 use Rattle.larch_actions.specs.Actions.{Spec, Fails, IsRun, FirstFault, at_first}
 use Rattle.trace_core.specs.declared.line.Line.TheVariants as line
 use Rattle.trace_core.specs.declared.line.Expect.TheVariants as expect
-use Rattle.trace_core.specs.Prefixes.{Begins, first_lines, IsBrokenAt}
-use Rattle.trace_core.specs.Intake.{IsShown}
+use Rattle.exact_text.specs.Prefixes.{Begins, first_lines, IsBrokenAt}
+use Rattle.exact_text.specs.Exact.{IsShown}
 use Rattle.trace_core.specs.Text.{MutexValue, head_text, event_line, end_line, values_text, trace_text, IsTrace}
-use Rattle.trace_core.proofs.Outcomes.{same_line, take_behind}
+use Rattle.trace_core.proofs.Outcomes.{same_line}
+use Rattle.exact_text.proofs.Stuck.{take_behind}
 use Rattle.trace_check.specs.declared.checker.Summary.{Summary}
 use Rattle.trace_check.specs.declared.checker.Verdict.{Verdict}
 use Rattle.trace_check.specs.declared.checker.Verdict.TheVariants.{Legal, Illegal, BadLine, TooLong, ReadFault}

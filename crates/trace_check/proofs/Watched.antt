@@ -8,8 +8,8 @@ use Rattle.larch_actions.specs.declared.event.Broken.{Broken}
 use Rattle.larch_actions.specs.Layout.{IsLawful, HasNames}
 use Rattle.larch_actions.specs.Actions.{Spec, Acts, Fails, IsRun, at_first}
 use Rattle.larch_actions.specs.State.{Moment, spec_of, held, waiting, alerted}
-use Rattle.trace_core.specs.declared.intake.TextFault.{TextFault}
-use Rattle.trace_core.specs.declared.intake.TextFault.TheVariants as fault
+use Rattle.exact_text.specs.declared.fault.TextFault.{TextFault}
+use Rattle.exact_text.specs.declared.fault.TextFault.TheVariants as fault
 use Rattle.trace_core.specs.Standing.{Standing}
 use Rattle.trace_core.specs.Steps.{TakesHead, TakesEvent, TakesEnd}
 use Rattle.trace_check.specs.Verdicts.{refusal}
@@ -133,3 +133,4 @@ module _ {W : Type 0} (keeps : W → Layout → List Event → W → Type 0) (bu
     seen_cut (fault.BadLine k) = seen_by None (refusal (fault.BadLine k)) tt refl (nothing left₀)
     seen_cut fault.TooLong = seen_by None (refusal fault.TooLong) tt refl (nothing left₀)
     seen_cut fault.Read = seen_by None (refusal fault.Read) tt refl (nothing left₀)
+    seen_cut fault.Memory = seen_by None (refusal fault.Memory) tt refl (nothing left₀)

@@ -10,21 +10,22 @@ use Rattle.larch_actions.specs.declared.event.Broken.{Broken}
 use Rattle.larch_actions.specs.Layout.{IsLawful, HasNames}
 use Rattle.larch_actions.specs.Actions.{Spec, IsRun, IsLegal, FirstFault}
 use Rattle.larch_actions.specs.State as state
-use Rattle.trace_core.specs.declared.intake.TextFault.{TextFault}
-use Rattle.trace_core.specs.declared.intake.TextFault.TheVariants as fault
-use Rattle.trace_core.specs.Prefixes.{Begins}
-use Rattle.trace_core.specs.Intake.{IsShown}
+use Rattle.exact_text.specs.declared.fault.TextFault.{TextFault}
+use Rattle.exact_text.specs.declared.fault.TextFault.TheVariants as fault
+use Rattle.exact_text.specs.Prefixes.{Begins}
+use Rattle.exact_text.specs.Exact.{IsShown}
 use Rattle.trace_core.specs.Text.{MutexValue, head_text, ReadsAs, IsTrace}
 use Rattle.trace_core.specs.Whole.{event_lines}
 use Rattle.trace_check.specs.declared.checker.Summary.{Summary}
 use Rattle.trace_check.specs.declared.checker.Verdict.{Verdict}
 use Rattle.trace_check.specs.declared.checker.Verdict.TheVariants.{Legal, Illegal, BadLine, TooLong, ReadFault}
 
--- the verdict on a text that can't be read
+-- the verdict on a text that can't be read; a reader of traces takes no memory
 abbrev pub refusal : TextFault → Verdict
 refusal (fault.BadLine k) = BadLine k
 refusal fault.TooLong = TooLong
 refusal fault.Read = ReadFault
+refusal fault.Memory = ReadFault
 
 -- the head of a text, and the lines of its first events
 abbrev pub prefix_text : Layout → List Event → List ℕ

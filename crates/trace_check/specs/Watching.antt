@@ -8,7 +8,7 @@ use Rattle.larch_actions.specs.Layout.{IsLawful, HasNames}
 use Rattle.larch_actions.specs.Actions.{Spec, Acts, IsRun}
 use Rattle.trace_check.specs.declared.checker.Verdict.{Verdict}
 use Rattle.trace_check.specs.declared.checker.Verdict.TheVariants.{Legal, Illegal}
-use Rattle.trace_core.specs.declared.intake.TextFault.{TextFault}
+use Rattle.exact_text.specs.declared.fault.TextFault.{TextFault}
 use Rattle.trace_check.specs.Verdicts.{refusal, IsPrefixText, IsLegalText, IsIllegalText}
 
 -- The events are a run of that layout, and this event may come next, at this place.

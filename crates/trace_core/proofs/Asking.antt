@@ -5,17 +5,17 @@ use Rattle.larch_actions.specs.declared.event.Layout.{Layout}
 use Rattle.larch_actions.specs.Layout.{IsLawful, HasNames}
 use Rattle.trace_core.specs.declared.line.Line.TheVariants as line
 use Rattle.trace_core.specs.declared.line.Expect.TheVariants as expect
-use Rattle.trace_core.specs.declared.line.Stop.TheVariants.{More}
-use Rattle.trace_core.specs.declared.intake.Intake.{Intake}
-use Rattle.trace_core.specs.Prefixes.{Begins}
-use Rattle.trace_core.specs.Intake.{IsUndecided}
+use Rattle.exact_text.specs.declared.stop.Stop.TheVariants.{More}
+use Rattle.exact_text.specs.declared.intake.Intake.{Intake}
+use Rattle.exact_text.specs.Prefixes.{Begins}
+use Rattle.trace_core.specs.Lacking.{IsUndecided}
 use Rattle.trace_core.specs.Text.{IsTrace, IsRest, IsValues, first_line, layout_line, head_text, event_line}
 use Rattle.trace_core.specs.Lines.{line_at, IsPossible}
-use Rattle.trace_core.proofs.CodeLaws.{ok_injective}
+use Rattle.exact_text.proofs.CodeLaws.{ok_injective}
 use Rattle.trace_core.proofs.LineLaws.{line_code}
 use Rattle.trace_core.proofs.Plain.{plain_event, plain_is_read, plain_line}
 use Rattle.trace_core.proofs.Texts.{line_grammar}
-use Rattle.trace_core.proofs.Grammar.{prefix, prefix_from}
+use Rattle.exact_text.proofs.Grammar.{prefix, prefix_from}
 use Rattle.trace_core.proofs.Outcomes.{more_lacks, same_version}
 use Rattle.trace_core.proofs.Ends.{all_begin}
 

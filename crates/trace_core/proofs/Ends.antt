@@ -4,19 +4,19 @@ use Rattle.std.proofs.lemmas.List.{take_at}
 use Rattle.std.specs.Io.KnownBytes.{Consumes, IsAtEnd, Keeps, prepend_known}
 use Rattle.std.specs.declared.option.Option.{Option}
 use Rattle.std.specs.declared.result.Result.{Result}
-use Rattle.firefly_outside.specs.Causes.{Rose}
 use Rattle.larch_actions.specs.declared.event.Layout.{Layout}
 use Rattle.trace_core.specs.declared.line.Expect.TheVariants as expect
-use Rattle.trace_core.specs.declared.intake.Intake.{Intake}
-use Rattle.trace_core.specs.declared.intake.TextFault.{TextFault}
-use Rattle.trace_core.specs.declared.intake.TextFault.TheVariants.{BadLine, TooLong, Read}
-use Rattle.trace_core.specs.Prefixes.{Begins, first_lines, IsBrokenAt}
-use Rattle.trace_core.specs.Intake.{IsShown, IsFilled, IsAsked, HasReason, rest_of, room_of}
+use Rattle.exact_text.specs.declared.intake.Intake.{Intake}
+use Rattle.exact_text.specs.declared.fault.TextFault.{TextFault}
+use Rattle.exact_text.specs.declared.fault.TextFault.TheVariants.{Memory, BadLine, TooLong, Read}
+use Rattle.exact_text.specs.Prefixes.{Begins, first_lines, IsBrokenAt}
+use Rattle.exact_text.specs.Exact.{IsShown, HasReason, bytes_room}
+use Rattle.exact_text.specs.Intake.{IsFilled, IsAsked, rest_of, room_of}
 use Rattle.trace_core.specs.Steps.{IsEnding}
 use Rattle.trace_core.specs.Text.{MutexValue, IsValues, end_line, value_line}
 use Rattle.trace_core.specs.Lines.{IsSomeValues, IsPossible}
-use Rattle.trace_core.proofs.Outcomes.{kept_consumes, take_more_than}
-use Rattle.trace_core.proofs.Grammar.{empty_prefix}
+use Rattle.exact_text.proofs.Stuck.{rose_since, kept_consumes, take_more_than}
+use Rattle.exact_text.proofs.Grammar.{empty_prefix}
 use Rattle.trace_core.proofs.LineLaws.{line_code}
 use Rattle.trace_core.proofs.Texts.{line_grammar}
 
@@ -63,7 +63,8 @@ end_long T empty (Some xs) (Some ys) (Some zs) w piece room k c some le e =
 -- a fault of one more piece where nothing is held
 pub values_fault : (l : Layout) (least : ℕ) (old new : Intake) (r left left' : Option (List ℕ)) (lines room before now : ℕ) (fault : TextFault)
     → IsFilled old new left left' before now (Err fault) → Keeps r (prepend_known old.window left) → room_of old ≡ room → old.window ≡ []
-    → HasReason (IsValues l least) lines room r left' before now fault
+    → HasReason (IsValues l least) (bytes_room room) lines r left' before now fault
+values_fault l least old new r left left' lines room before now Memory f k' same e = absurd f
 values_fault l least old new r left left' lines room before now (BadLine k) f k' same e = absurd f
 values_fault l least old new r left left' lines room before now TooLong f k' same e =
     end_long (IsValues l least) (values_begin l least) r left left' old.window f.1.0 room k' f.1.1 f.1.2 (omega (arith, f.0)) e
@@ -102,18 +103,17 @@ shown_also l least ok room input k some (inr b) = inr (
 
 -- where a byte is left, the reason that a value line wasn't read is the reason that the values weren't
 some_reason : (l : Layout) (least : ℕ) → IsPossible (expect.Values l least) → (lines room : ℕ) (r left' : Option (List ℕ)) (before now : ℕ) (fault : TextFault) → IfSome r (λ input. 0 < length input)
-    → HasReason (IsSomeValues l least) lines room r left' before now fault → HasReason (IsValues l least) lines room r left' before now fault
+    → HasReason (IsSomeValues l least) (bytes_room room) lines r left' before now fault → HasReason (IsValues l least) (bytes_room room) lines r left' before now fault
+some_reason l least ok lines room r left' before now Memory some h = h
 some_reason l least ok lines room None left' before now (BadLine k) some h = h
 some_reason l least ok lines room (Some xs) left' before now (BadLine k) some h = (h.0, shown_also l least ok room xs (k - lines) some h.1)
 some_reason l least ok lines room None left' before now TooLong some h = h
 some_reason l least ok lines room (Some xs) left' before now TooLong some h = (h.0, all_begin l least (take room xs) h.1)
 some_reason l least ok lines room r left' before now Read some h = (h.0, (h.1.0, h.1.1, all_begin l least h.1.0 h.1.2, h.1.3))
 
-rose_since : (first before now : ℕ) → first ≤ before → Rose before now → Rose first now
-rose_since first before now le rose = grind arith
-
 -- the same reason, seen from before the input was asked once more
-kept_reason : (T : List ℕ → Type 0) (lines room : ℕ) (r r' left' : Option (List ℕ)) (first before now : ℕ) (fault : TextFault) → Keeps r r' → first ≤ before → HasReason T lines room r' left' before now fault → HasReason T lines room r left' first now fault
+kept_reason : (T : List ℕ → Type 0) (lines room : ℕ) (r r' left' : Option (List ℕ)) (first before now : ℕ) (fault : TextFault) → Keeps r r' → first ≤ before → HasReason T (bytes_room room) lines r' left' before now fault → HasReason T (bytes_room room) lines r left' first now fault
+kept_reason T lines room r r' left' first before now Memory same le h = h
 kept_reason T lines room None r' left' first before now (BadLine k) same le h = (h.0, tt)
 kept_reason T lines room (Some xs) None left' first before now (BadLine k) same le h = absurd same
 kept_reason T lines room (Some xs) (Some ys) left' first before now (BadLine k) same le h = subst (λ (input : List ℕ). (lines < k) × IsShown T room input (k - lines)) same h
@@ -130,13 +130,13 @@ left_some w (Some xs) some = omega (arith, length-append w xs)
 
 -- the same, seen from before it was asked whether a byte is left
 pub asked_reason : (l : Layout) (least : ℕ) → IsPossible (expect.Values l least) → (old new : Intake) (left left1 left' : Option (List ℕ)) (first before now : ℕ) (fault : TextFault)
-    → IsAsked old new left left1 first before (Ok true) → first ≤ before → HasReason (IsSomeValues l least) new.lines (room_of new) (rest_of new left1) left' before now fault
-    → HasReason (IsValues l least) old.lines (room_of old) (rest_of old left) left' first now fault
+    → IsAsked old new left left1 first before (Ok true) → first ≤ before → HasReason (IsSomeValues l least) (bytes_room (room_of new)) new.lines (rest_of new left1) left' before now fault
+    → HasReason (IsValues l least) (bytes_room (room_of old)) old.lines (rest_of old left) left' first now fault
 asked_reason l least ok old new left left1 left' first before now fault a le h =
     let T = IsValues l least in
     let all = some_reason l least ok new.lines (room_of new) (rest_of new left1) left' before now fault (left_some new.window left1 a.3) h in
     let kept = kept_reason T new.lines (room_of new) (rest_of old left) (rest_of new left1) left' first before now fault a.2 le all in
-    subst (λ (n : ℕ). HasReason T n (room_of old) (rest_of old left) left' first now fault) a.0.1 (subst (λ (n : ℕ). HasReason T new.lines n (rest_of old left) left' first now fault) a.1 kept)
+    subst (λ (n : ℕ). HasReason T (bytes_room (room_of old)) n (rest_of old left) left' first now fault) a.0.1 (subst (λ (n : ℕ). HasReason T (bytes_room n) new.lines (rest_of old left) left' first now fault) a.1 kept)
 
 pub on_ok : {T E P Q : Type 0} (r : Result T E) → (P → Q) → OnOk r P → OnOk r Q
 on_ok (Ok x) f h = f h

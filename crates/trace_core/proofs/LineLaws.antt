@@ -12,18 +12,18 @@ use Rattle.larch_actions.specs.Layout.{IsLawful, HasNames, most_in}
 use Rattle.larch_actions.proofs.Names.{few_of, few_threads}
 use Rattle.trace_core.specs.declared.line.Line.{Line}
 use Rattle.trace_core.specs.declared.line.Line.TheVariants as line
-use Rattle.trace_core.specs.Codes.{IsCode}
+use Rattle.exact_text.specs.Codes.{IsCode}
 use Rattle.trace_core.specs.declared.line.Expect.{Expect}
 use Rattle.trace_core.specs.declared.line.Expect.TheVariants as expect
 use Rattle.trace_core.specs.Made.{IsMade}
 use Rattle.trace_core.specs.Names.{IsStopped}
 use Rattle.trace_core.specs.Text.{first_line, layout_line, event_line, value_line, newline}
 use Rattle.trace_core.specs.Lines.{action_at, event_of, event_at, end_at, event_or_end_at, layout_from, counts_at, head_of, head_at, value_of, value_at, line_at, line_text, IsPossible, IsAllowed}
-use Rattle.trace_core.proofs.CodeLaws.{AreApart, same_code, lawful_code, word_code, nothing_code, then_code, as_code, or_code}
-use Rattle.trace_core.proofs.Numbers.{number_code}
+use Rattle.exact_text.proofs.CodeLaws.{AreApart, same_code, lawful_code, word_code, nothing_code, then_code, as_code, or_code}
+use Rattle.exact_text.proofs.Numbers.{number_code}
 use Rattle.trace_core.proofs.NumbersFrom.{number_from_code, only_space, space_stops}
 use Rattle.trace_core.proofs.RowTexts.{text}
-use Rattle.trace_core.proofs.Pieces.{flag_code, flag_text}
+use Rattle.exact_text.proofs.Pieces.{flag_code, flag_text}
 use Rattle.trace_core.proofs.RowLaws.{IsRead, action_code}
 
 event_text : (n : ℕ) (e : Event) → event_line n e ≡ decimal n ++ (codes " t" ++ ((decimal e.thread.0 ++ 32 ∷ []) ++ text e.action))
@@ -127,7 +127,7 @@ head_from (line.Head v) h = h
 head_from _ h = absurd h
 
 -- a lawful layout of the version
-abbrev IsLawfulIn : Version → Layout → Type 0
+abbrev pub IsLawfulIn : Version → Layout → Type 0
 IsLawfulIn v l = IsLawful l × (l.version ≡ v)
 
 counts_from : (v : Version) (x : Line) → IsAllowed (expect.Counts v) x → (l : Layout) × IsLawfulIn v l × (x ≡ line.Counts l)
@@ -159,7 +159,7 @@ some_thread : (v : Version) → 1 ≤ most_in v
 some_thread version.One = omega arith
 some_thread version.Two = omega arith
 
-counts_code : (v : Version) → IsCode (IsLawfulIn v) layout_line (counts_at v)
+pub counts_code : (v : Version) → IsCode (IsLawfulIn v) layout_line (counts_at v)
 counts_code v =
     let some = some_thread v in
     let few = few_threads v in

@@ -5,11 +5,11 @@ use Rattle.std.proofs.lemmas.Bool.Decides.{nat_tests}
 use Rattle.std.proofs.lemmas.Fmt.{decimal_step, decimal_digit}
 use Rattle.std.proofs.lemmas.List.{take_all}
 use Rattle.std.specs.Prelude.{decimal, ◌&&◌, nat_le, nat_lt}
-use Rattle.trace_core.specs.declared.line.Stop.TheVariants.{More, Dead}
-use Rattle.trace_core.specs.Codes.{IsCode}
-use Rattle.trace_core.proofs.Words.{chosen}
-use Rattle.trace_core.proofs.CodeLaws.{ok_injective}
-use Rattle.trace_core.proofs.Numbers.{decimal_more}
+use Rattle.exact_text.specs.declared.stop.Stop.TheVariants.{More, Dead}
+use Rattle.exact_text.specs.Codes.{IsCode}
+use Rattle.exact_text.proofs.Words.{chosen}
+use Rattle.exact_text.proofs.CodeLaws.{ok_injective}
+use Rattle.exact_text.proofs.Numbers.{decimal_more}
 use Rattle.trace_core.specs.Names.{reaches, is_digit, may_stop, digits_from, number_from, IsStopped}
 
 both_true : (a b : Bool) → (a && b) ≡ true → (a ≡ true) × (b ≡ true)

@@ -1,10 +1,10 @@
 -- Where the quick way of reading a place agrees with the plain one.
 use Rattle.std.proofs.Common.{◌≡◌, ℕ, ◌^◌, List, [], ◌∷◌, ◌++◌, refl, ap, sym, ◌∙◌, append_assoc, Ok, arith}
 use Rattle.std.specs.Prelude.{codes, decimal}
-use Rattle.trace_core.specs.Reading.{word_at, number_at}
+use Rattle.exact_text.specs.Reading.{word_at, number_at}
 use Rattle.trace_core.specs.Lines.{place_at}
-use Rattle.trace_core.proofs.Words.{word_at-again}
-use Rattle.trace_core.proofs.Numbers.{number_at-found}
+use Rattle.exact_text.proofs.Words.{word_at-again}
+use Rattle.exact_text.proofs.Numbers.{number_at-found}
 
 place_is : (n : ℕ) (rest : List ℕ) → place_at n (decimal n ++ (32 ∷ rest)) ≡ word_at (codes "t") rest
 place_is n rest = rw (word_at-again (decimal n) (32 ∷ rest)) refl

@@ -3,9 +3,9 @@ use Rattle.std.proofs.Common.{◌≡◌, ℕ, zero, suc, ◌+◌, ◌<◌, ◌�
 use Rattle.std.proofs.lemmas.Bool.{eq-eqb}
 use Rattle.std.proofs.lemmas.Bool.Decides.{nat_tests}
 use Rattle.std.specs.Prelude.{◌==◌, decimal, codes, if◌then◌else◌}
-use Rattle.trace_core.specs.Codes.{IsCode}
-use Rattle.trace_core.specs.Reading.{Reader, after_word}
-use Rattle.trace_core.proofs.CodeLaws.{same_code, lawful_code, word_code, nothing_code, then_code, as_code, or_code}
+use Rattle.exact_text.specs.Codes.{IsCode}
+use Rattle.exact_text.specs.Reading.{Reader, after_word}
+use Rattle.exact_text.proofs.CodeLaws.{same_code, lawful_code, word_code, nothing_code, then_code, as_code, or_code}
 use Rattle.trace_core.specs.Names.{may_stop, IsStopped, IsRising, tail_at, names_at}
 use Rattle.trace_core.proofs.NumbersFrom.{number_from_code}
 

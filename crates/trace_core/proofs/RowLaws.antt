@@ -22,18 +22,18 @@ use Rattle.larch_actions.specs.Layout.{IsLawful, IsNamed, IsNamedRow, InVersion,
 use Rattle.larch_actions.specs.Rows.{words, word_text, since, kinds_of, endings_of, none, one, two, answer_of, left_by, row, row_of, made, AreFor, IsEnding}
 use Rattle.larch_actions.proofs.Names.{few_of}
 use Rattle.larch_actions.proofs.Table.{action_back, is_row, row_back, place_of, is_there}
-use Rattle.trace_core.specs.Codes.{IsCode}
+use Rattle.exact_text.specs.Codes.{IsCode}
 use Rattle.trace_core.specs.Made.{IsMade, IsMadeEnding}
 use Rattle.trace_core.specs.Names.{names_at, set_from}
 use Rattle.trace_core.specs.Lines.{stop_of, gap_of, outcome_of, ending_at, name_at, behind_at, are_some, is_in, may_stand, row_at, rows_at, action_at}
-use Rattle.trace_core.specs.Reading.{as_value}
+use Rattle.exact_text.specs.Reading.{as_value}
 use Rattle.trace_core.specs.Text.{row_text, members, newline}
-use Rattle.trace_core.proofs.CodeLaws.{AreApart, no_code, nothing_code, same_code, word_code, then_code, as_code, or_code, only_code}
-use Rattle.trace_core.proofs.Choices.{differ, differ-apart, all_differ, differs_from_all, both_true}
-use Rattle.trace_core.proofs.Numbers.{number_code}
+use Rattle.exact_text.proofs.CodeLaws.{AreApart, no_code, nothing_code, same_code, word_code, then_code, as_code, or_code, only_code}
+use Rattle.exact_text.proofs.Choices.{differ, differ-apart, all_differ, differs_from_all, both_true}
+use Rattle.exact_text.proofs.Numbers.{number_code}
 use Rattle.trace_core.proofs.RisingSets.{names_line, names_code}
 use Rattle.trace_core.proofs.Members.{rising-members, below_bound, members-set_from}
-use Rattle.trace_core.proofs.Pieces.{flag_code, flag_text}
+use Rattle.exact_text.proofs.Pieces.{flag_code, flag_text}
 use Rattle.trace_core.proofs.RowTexts.{text, ending_line, name_line, behind_line, start_of, row_is, begins_so}
 
 -- an ending of this sort, and lawful threads where some are left

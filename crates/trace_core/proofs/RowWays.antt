@@ -4,10 +4,10 @@ use Rattle.std.proofs.Math.Seq.{drop-cons}
 use Rattle.larch_actions.specs.declared.event.Layout.{Layout}
 use Rattle.larch_actions.specs.declared.event.Action.{Action}
 use Rattle.larch_actions.specs.declared.rows.Word.{Word}
-use Rattle.trace_core.specs.declared.line.Stop.TheVariants.{More, Dead}
+use Rattle.exact_text.specs.declared.stop.Stop.TheVariants.{More, Dead}
 use Rattle.larch_actions.specs.Rows.{word_text, kinds_of, endings_of, made}
 use Rattle.trace_core.specs.Lines.{gap_of, behind_at, may_stand, row_at, rows_at}
-use Rattle.trace_core.specs.Reading.{Reader, or_else, word_at, after_word, as_value, only_if}
+use Rattle.exact_text.specs.Reading.{Reader, or_else, word_at, after_word, as_value, only_if}
 
 -- the words from a place on: the one there, and those behind it
 from_here : (l : Layout) (ws : List Word) (i : ℕ) (d : Word) (bytes : List ℕ) → i < length ws → rows_at l (drop i ws) bytes ≡ or_else (row_at l (get_or ws i d) bytes) (rows_at l (drop (i + 1) ws) bytes)

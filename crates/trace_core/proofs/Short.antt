@@ -1,7 +1,5 @@
 -- A line is shorter than a window.
-use Rattle.std.proofs.Common.{◌≡◌, ℕ, ◌+◌, ◌-◌, ◌*◌, ◌^◌, ◌<◌, ◌≤◌, List, [], ◌∷◌, length, length-append, ap, Err, arith}
-use Rattle.std.proofs.lemmas.Fmt.{length-decimal-le}
-use Rattle.std.specs.Prelude.{decimal}
+use Rattle.std.proofs.Common.{ℕ, ◌+◌, ◌-◌, ◌*◌, ◌<◌, ◌≤◌, List, [], ◌∷◌, length, length-append, arith}
 use Rattle.larch_actions.specs.declared.event.Version.{Version}
 use Rattle.larch_actions.specs.declared.event.Version.TheVariants as version
 use Rattle.larch_actions.specs.declared.event.Layout.{Layout}
@@ -19,21 +17,19 @@ use Rattle.larch_actions.specs.Layout.{IsLawful, IsNamed, AreBelow}
 use Rattle.larch_actions.specs.Rows.{word_text, kinds_of, endings_of, row_of}
 use Rattle.larch_actions.proofs.Names.{few_of}
 use Rattle.larch_actions.proofs.Table.{each_plain}
-use Rattle.trace_core.specs.declared.line.Stop.TheVariants.{More}
 use Rattle.trace_core.specs.declared.line.Line.{Line}
 use Rattle.trace_core.specs.declared.line.Line.TheVariants as line
 use Rattle.trace_core.specs.declared.line.Expect.{Expect}
 use Rattle.trace_core.specs.declared.line.Expect.TheVariants as expect
 use Rattle.trace_core.specs.Names.{IsRising}
 use Rattle.trace_core.specs.Text.{first_line, action_text, names_text, with_name, with_names, with_ending, members}
-use Rattle.trace_core.specs.Lines.{line_at, line_text, IsPossible, IsAllowed}
-use Rattle.trace_core.proofs.LineLaws.{line_code}
+use Rattle.trace_core.specs.Lines.{line_text, IsPossible, IsAllowed}
+use Rattle.exact_text.specs.Prefixes.{IsLine}
+use Rattle.exact_text.proofs.Flat.{decimal_short}
+use Rattle.trace_core.proofs.Texts.{line_grammar}
 use Rattle.trace_core.proofs.Members.{rising-members}
 use Rattle.trace_core.proofs.RowTexts.{neither}
 use Rattle.trace_core.proofs.RowLaws.{EndsIn, named_parts}
-
-decimal_short : (n : ℕ) → n < 2 ^ 64 → length (decimal n) ≤ 20
-decimal_short n fits = length-decimal-le 20 n (omega arith) (omega arith) fits
 
 names_short : (least bound : ℕ) (ts : List ℕ) → bound ≤ 256 → IsRising least bound ts → length (names_text ts) ≤ 22 * (bound - least)
 names_short least bound [] small h = omega arith
@@ -89,8 +85,9 @@ line_short (expect.Events l n) ok _ h = absurd h
 line_short (expect.Values l least) ok (line.Value k v) h = simp length-append (omega (arith, decimal_short k (omega (arith, ok.0.mutexes, h.1)), decimal_short v h.2))
 line_short (expect.Values l least) ok _ h = absurd h
 
--- bytes to which more must come are short
-pub more_short : (x : Expect) → IsPossible x → (w : List ℕ) → line_at x w ≡ Err More → length w ≤ 6250
-more_short x ok w e =
-    let m = (line_code x ok).more w e in
-    omega (arith, line_short x ok m.0 m.2, ap length m.3, length-append w m.1)
+-- a line, and shorter than a window
+pub line_is_line : (x : Expect) → IsPossible x → (y : Line) → IsAllowed x y → IsLine (line_text x y) × (length (line_text x y) < 65536)
+line_is_line x ok y h = ((line_grammar x ok).lines y h, omega (arith, line_short x ok y h))
+
+pub some_line : (x : Expect) → IsPossible x → (y : Line) × IsAllowed x y
+some_line x ok = (line_grammar x ok).some

@@ -5,8 +5,8 @@ use Rattle.std.specs.Prelude.{codes}
 use Rattle.std.specs.declared.result.Result.{Result}
 use Rattle.larch_actions.specs.declared.thread_set.ThreadSet.{ThreadSet}
 use Rattle.larch_actions.specs.Sets.{set_of}
-use Rattle.trace_core.specs.declared.line.Stop.{Stop}
-use Rattle.trace_core.specs.Reading.{Reader, word_at, as_value, ◌>>=◌}
+use Rattle.exact_text.specs.declared.stop.Stop.{Stop}
+use Rattle.exact_text.specs.Reading.{Reader, word_at, as_value, ◌>>=◌}
 use Rattle.trace_core.specs.Names.{number_from, tail_at, onto}
 
 -- the set of the names seen and those to come

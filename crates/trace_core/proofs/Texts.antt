@@ -1,8 +1,6 @@
 -- The rest of a trace text is a line, and the rest behind it.
-use Rattle.std.proofs.Common.{◌≡◌, ℕ, ◌+◌, ◌%◌, ◌^◌, ◌<◌, ◌≤◌, inl, inr, List, [], ◌∷◌, ◌++◌, refl, ap, sym, ◌∙◌, append_assoc, append-nil, Bool, true, false, arith, rules, tests}
-use Rattle.std.proofs.lemmas.Bool.{eqb-false}
-use Rattle.std.proofs.lemmas.Fmt.{decimal_by_steps}
-use Rattle.std.specs.Prelude.{codes, decimal, nat_lt, if◌then◌else◌, ◌==◌}
+use Rattle.std.proofs.Common.{◌≡◌, ℕ, ◌+◌, ◌^◌, ◌<◌, ◌≤◌, List, [], ◌∷◌, ◌++◌, refl, ap, sym, ◌∙◌, append_assoc, append-nil, true, arith, rules, tests}
+use Rattle.std.specs.Prelude.{codes, decimal, nat_lt}
 use Rattle.larch_actions.specs.declared.event.Version.{Version}
 use Rattle.larch_actions.specs.declared.event.Version.TheVariants as version
 use Rattle.larch_actions.specs.declared.event.Layout.{Layout}
@@ -28,29 +26,15 @@ use Rattle.trace_core.specs.declared.line.Expect.TheVariants as expect
 use Rattle.trace_core.specs.Names.{IsRising}
 use Rattle.trace_core.specs.Text.{action_text, names_text, with_name, with_names, with_ending, members, first_line, layout_line, event_line, end_line, value_line, values_text, rest_text, IsRest, IsLaid, IsTrace}
 use Rattle.trace_core.specs.Lines.{line_text, IsPossible, IsAllowed, IsSomeValues, IsTextFrom, IsTextBehind}
-use Rattle.trace_core.proofs.Words.{chosen}
-use Rattle.trace_core.proofs.Grammar.{IsFlat, IsFlat-append, IsLine, Unfolds}
-use Rattle.trace_core.proofs.Choices.{both_true}
+use Rattle.exact_text.proofs.Flat.{is_flat, flat_from, flat_decimal}
+use Rattle.exact_text.specs.Prefixes.{IsFlat, IsLine}
+use Rattle.exact_text.proofs.Grammar.{IsFlat-append}
+use Rattle.exact_text.specs.Unfolds.{Unfolds}
+use Rattle.exact_text.proofs.Choices.{both_true}
 use Rattle.trace_core.proofs.Members.{rising-members}
 use Rattle.trace_core.proofs.Plain.{plain_event, plain_is_read, plain_line}
 use Rattle.trace_core.proofs.RowTexts.{neither}
 use Rattle.trace_core.proofs.RowLaws.{EndsIn, named_parts}
-
-abbrev is_flat : List ℕ → Bool
-is_flat [] = true
-is_flat (c ∷ bytes) = if c == 10 then false else is_flat bytes
-
-flat_from : (bytes : List ℕ) → is_flat bytes ≡ true → IsFlat bytes
-flat_from [] e = tt
-flat_from (c ∷ bytes) e =
-    elim (chosen (c == 10) _ _ _ e) [
-      | inl p ↦ let h = p.1 in absurd (cc)
-      | inr p ↦ (eqb-false c 10 p.0, flat_from bytes p.1)
-    ]
-
-flat_decimal : (n : ℕ) → n < 2 ^ 64 → IsFlat (decimal n)
-flat_decimal n fits =
-    decimal_by_steps (λ _ ds. IsFlat ds) (λ n small. ((λ h. omega arith), tt)) (λ n ds large h. IsFlat-append ds ((48 + n % 10) ∷ []) h ((λ k. omega arith), tt)) n fits
 
 -- a word that has no newline, and a number
 flat_named : (prefix word : List ℕ) (n : ℕ) → IsFlat prefix → is_flat word ≡ true → n < 2 ^ 64 → IsFlat (prefix ++ word ++ decimal n)
@@ -120,7 +104,7 @@ end_is_line n fits = (codes "end " ++ decimal n, flat_named [] (codes "end ") n 
 flat_count : (word : List ℕ) (n : ℕ) (rest : List ℕ) → is_flat word ≡ true → n < 2 ^ 64 → IsFlat rest → IsFlat (word ++ (decimal n ++ rest))
 flat_count word n rest w fits p = IsFlat-append word (decimal n ++ rest) (flat_from word w) (IsFlat-append (decimal n) rest (flat_decimal n fits) p)
 
-counts_is_line : (l : Layout) → IsLawful l → IsLine (layout_line l)
+pub counts_is_line : (l : Layout) → IsLawful l → IsLine (layout_line l)
 counts_is_line l ok =
     let s = IsFlat-append (codes " semaphores ") (decimal l.semaphores) (flat_from (codes " semaphores ") refl) (flat_decimal l.semaphores (omega (arith, ok.semaphores))) in
     let c = flat_count (codes " conditions ") l.conditions (codes " semaphores " ++ decimal l.semaphores) refl (omega (arith, ok.conditions)) s in

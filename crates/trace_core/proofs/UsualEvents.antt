@@ -1,7 +1,6 @@
 -- An event whose line was read at once.
-use Rattle.std.proofs.Common.{◌≡◌, ℕ, ◌+◌, ◌^◌, ◌<◌, ◌≤◌, List, ◌++◌, length, length-append, length-drop, drop, refl, ap, ◌∙◌, Some, None, Ok, arith}
+use Rattle.std.proofs.Common.{◌≡◌, ℕ, ◌+◌, ◌^◌, ◌<◌, ◌≤◌, List, ◌++◌, length, length-append, length-drop, drop, ap, ◌∙◌, Ok, arith}
 use Rattle.std.specs.Prelude.{codes, decimal}
-use Rattle.std.specs.Io.KnownBytes.{Keeps}
 use Rattle.std.specs.declared.option.Option.{Option}
 use Rattle.larch_actions.specs.declared.event.Layout.{Layout}
 use Rattle.larch_actions.specs.declared.event.Event.{Event}
@@ -12,13 +11,13 @@ use Rattle.trace_core.specs.declared.line.Line.TheVariants as line
 use Rattle.trace_core.specs.declared.reader_state.Progress.{Progress}
 use Rattle.trace_core.specs.declared.reader_state.Phase.TheVariants as phase
 use Rattle.trace_core.specs.Usual.{IsEventAt}
-use Rattle.trace_core.specs.Intake.{rest_of}
+use Rattle.exact_text.specs.Intake.{rest_of}
 use Rattle.trace_core.specs.Lines.{line_at}
 use Rattle.trace_core.specs.Standing.{standing_of}
 use Rattle.trace_core.specs.Steps.{IsTaken, TakesEvent}
 use Rattle.trace_core.specs.Text.{event_line, action_text, newline}
 use Rattle.trace_core.proofs.LineLaws.{line_code}
-use Rattle.trace_core.proofs.Outcomes.{read_outcome, length_outcome}
+use Rattle.exact_text.proofs.Stuck.{Keeps-refl, read_outcome, length_outcome}
 
 behind_some : (prefix : List ℕ) → 0 < length (prefix ++ newline)
 behind_some prefix = omega (arith, length-append prefix newline)
@@ -36,16 +35,12 @@ held_size l n w x h =
 pub usual_line : (l : Layout) (n : ℕ) (w : List ℕ) (x : UsualEvent) → IsLawful l → n + 1 < 2 ^ 64 → IsEventAt l n w x → line_at (expect.Events l n) w ≡ Ok (line.Event x.event, drop x.end w)
 usual_line l n w x lawful fits h = ap (line_at (expect.Events l n)) h.text.there ∙ (line_code (expect.Events l n) (lawful, fits)).again (line.Event x.event) (drop x.end w) (h.named, h.made)
 
-same_rest : (r : Option (List ℕ)) → Keeps r r
-same_rest None = tt
-same_rest (Some xs) = refl
-
 -- what taking it does to where the reader stands
 pub usual_takes : (old new : Progress) (left : Option (List ℕ)) (e : Event) → IsLawful old.layout → old.place + 1 < 2 ^ 64 → old.phase ≡ phase.Events → IsTaken old new e → TakesEvent (standing_of old left) (standing_of new left) e
 usual_takes old new left e lawful fits p t =
-    let x = expect.Events old.layout old.place in
-    let r = read_outcome x (lawful, fits) (rest_of old.intake left) left old.intake.window new.intake.window (line.Event e) (same_rest (rest_of old.intake left)) t.line in
-    let s = length_outcome x (lawful, fits) old.intake.window new.intake.window (line.Event e) t.line in record {
+    let code = line_code (expect.Events old.layout old.place) (lawful, fits) in
+    let r = read_outcome code (rest_of old.intake left) left old.intake.window new.intake.window (line.Event e) (Keeps-refl (rest_of old.intake left)) t.line in
+    let s = length_outcome code old.intake.window new.intake.window (line.Event e) t.line in record {
       names = r.0.0;
       made = r.0.1;
       passes = record { bytes = r.1; room = omega (arith, s, t.given, t.budget); lines = t.lines };

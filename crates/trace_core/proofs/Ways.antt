@@ -3,18 +3,10 @@ use Rattle.std.proofs.Common.{◌≡◌, ℕ, ◌+◌, List, [], refl, ap, sym, 
 use Rattle.std.specs.Prelude.{codes}
 use Rattle.std.specs.declared.result.Result.{Result}
 use Rattle.larch_actions.specs.declared.event.Version.{Version}
-use Rattle.larch_actions.specs.declared.event.Layout.{Layout}
 use Rattle.larch_actions.specs.Layout.{most_in}
-use Rattle.trace_core.specs.declared.line.Line.TheVariants as line
-use Rattle.trace_core.specs.declared.line.Stop.{Stop}
-use Rattle.trace_core.specs.Reading.{Reader, ◌>>=◌, word_at, after_word, both, as_value, number_at}
+use Rattle.exact_text.specs.declared.stop.Stop.{Stop}
+use Rattle.exact_text.specs.Reading.{Reader, ◌>>=◌, word_at, after_word, both, as_value, number_at}
 use Rattle.trace_core.specs.Lines.{named_at, layout_from, counts_at}
-
-value_ok : {X Z : Type 0} (f : X → Z) (read : Reader X) (bytes : List ℕ) (x : X × List ℕ) → read bytes ≡ Ok x → as_value f read bytes ≡ Ok (f x.0, x.1)
-value_ok f read bytes x e = ap (λ r. r >>= λ x. Ok (f x.0, x.1)) e
-
-value_stops : {X Z : Type 0} (f : X → Z) (read : Reader X) (bytes : List ℕ) (s : Stop) → read bytes ≡ Err s → as_value f read bytes ≡ Err s
-value_stops f read bytes s e = ap (λ r. r >>= λ x. Ok (f x.0, x.1)) e
 
 flat : {A B C : Type 0} (r : Result A Stop) (f : A → Result B Stop) (g : B → Result C Stop) → (r >>= f) >>= g ≡ r >>= (λ x. f x >>= g)
 flat (Ok x) f g = refl
@@ -43,21 +35,12 @@ last_same bytes =
 abbrev counted : ℕ → Result ((ℕ × (ℕ × ℕ)) × List ℕ) Stop → Result ((ℕ × (ℕ × (ℕ × ℕ))) × List ℕ) Stop
 counted t r = r >>= λ y. Ok ((t, y.0), y.1)
 
-laid : (v : Version) (t : ℕ) (r : Result ((ℕ × (ℕ × ℕ)) × List ℕ) Stop)
-    → as_value line.Counts (as_value (layout_from v) (λ _. counted t r)) [] ≡ as_value line.Counts (as_value (λ p. layout_from v (t, p)) (λ _. r)) []
+laid : (v : Version) (t : ℕ) (r : Result ((ℕ × (ℕ × ℕ)) × List ℕ) Stop) → as_value (layout_from v) (λ _. counted t r) [] ≡ as_value (λ p. layout_from v (t, p)) (λ _. r) []
 laid v t (Ok x) = refl
 laid v t (Err s) = refl
 
-counts_from : (v : Version) (bytes rest more : List ℕ) (t : ℕ) → word_at (codes "threads ") bytes ≡ Ok rest → number_at 1 (most_in v + 1) 32 rest ≡ Ok (t, more)
-    → as_value line.Counts (counts_at v) bytes ≡ as_value line.Counts (as_value (λ p. layout_from v (t, p)) last_names) more
+pub counts_from : (v : Version) (bytes rest more : List ℕ) (t : ℕ) → word_at (codes "threads ") bytes ≡ Ok rest → number_at 1 (most_in v + 1) 32 rest ≡ Ok (t, more)
+    → counts_at v bytes ≡ as_value (λ p. layout_from v (t, p)) last_names more
 counts_from v bytes rest more t e f =
-    let h : as_value line.Counts (counts_at v) bytes ≡ as_value line.Counts (as_value (λ p. layout_from v (t, p)) last_numbers) more = rw (e, f) (laid v t (last_numbers more)) in
-    h ∙ ap (λ r. as_value line.Counts (as_value (λ p. layout_from v (t, p)) (λ _. r)) []) (sym (last_same more))
-
-pub counts_ok : (v : Version) (bytes rest more end : List ℕ) (t : ℕ) (l : Layout) → word_at (codes "threads ") bytes ≡ Ok rest → number_at 1 (most_in v + 1) 32 rest ≡ Ok (t, more) → as_value (λ p. layout_from v (t, p)) last_names more ≡ Ok (l, end)
-    → as_value line.Counts (counts_at v) bytes ≡ Ok (line.Counts l, end)
-counts_ok v bytes rest more end t l e f g = counts_from v bytes rest more t e f ∙ value_ok line.Counts (as_value (λ p. layout_from v (t, p)) last_names) more (l, end) g
-
-pub counts_stop : (v : Version) (bytes rest more : List ℕ) (t : ℕ) (s : Stop) → word_at (codes "threads ") bytes ≡ Ok rest → number_at 1 (most_in v + 1) 32 rest ≡ Ok (t, more) → as_value (λ p. layout_from v (t, p)) last_names more ≡ Err s
-    → as_value line.Counts (counts_at v) bytes ≡ Err s
-counts_stop v bytes rest more t s e f g = counts_from v bytes rest more t e f ∙ value_stops line.Counts (as_value (λ p. layout_from v (t, p)) last_names) more s g
+    let h : counts_at v bytes ≡ as_value (λ p. layout_from v (t, p)) last_numbers more = rw (e, f) (laid v t (last_numbers more)) in
+    h ∙ ap (λ r. as_value (λ p. layout_from v (t, p)) (λ _. r) []) (sym (last_same more))

@@ -1,13 +1,11 @@
 pub mod Text
-pub mod Prefixes
-pub mod Codes
-pub mod Reading
 pub mod Names
 pub mod Made
 pub mod Lines
+pub mod Readable
 pub mod Usual
 pub mod Spelled
-pub mod Intake
+pub mod Lacking
 pub mod Standing
 pub mod Steps
 pub mod Reader

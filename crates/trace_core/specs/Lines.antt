@@ -21,9 +21,9 @@ use Rattle.trace_core.specs.declared.line.Line.TheVariants as line
 use Rattle.trace_core.specs.declared.line.Expect.{Expect}
 use Rattle.trace_core.specs.declared.line.Expect.TheVariants as expect
 use Rattle.std.specs.declared.result.Result.{Result}
-use Rattle.trace_core.specs.declared.line.Stop.{Stop}
-use Rattle.trace_core.specs.declared.line.Stop.TheVariants.{Dead}
-use Rattle.trace_core.specs.Reading.{Reader, ◌>>=◌, word_at, after_word, both, as_value, either, only_if, number_at}
+use Rattle.exact_text.specs.declared.stop.Stop.{Stop}
+use Rattle.exact_text.specs.declared.stop.Stop.TheVariants.{Dead}
+use Rattle.exact_text.specs.Reading.{Reader, ◌>>=◌, word_at, after_word, both, as_value, either, only_if, number_at, flag_at}
 use Rattle.trace_core.specs.Names.{number_from, names_at, set_from}
 use Rattle.trace_core.specs.Made.{IsMade}
 use Rattle.trace_core.specs.Text.{first_line, layout_line, event_line, end_line, value_line, IsRest, IsLaid, IsTrace, IsValues, MutexValue, AreValues, values_text}
@@ -35,10 +35,6 @@ place_at n bytes = word_at (decimal n) bytes >>= word_at (codes " t")
 -- a word, and a name below the bound up to the byte that stops it
 abbrev pub named_at : List ℕ → ℕ → ℕ → Reader ℕ
 named_at word bound stop = only_if (nat_lt 0 bound) (after_word word (number_at 0 bound stop))
-
--- one word or the other
-abbrev pub flag_at : List ℕ → List ℕ → Reader Bool
-flag_at one other = either (after_word one (λ rest. Ok (true, rest))) (after_word other (λ rest. Ok (false, rest)))
 
 -- the byte behind the last name, or behind a word with none: a newline where nothing may follow
 abbrev pub stop_of : Endings → ℕ

@@ -2,8 +2,8 @@
 use Rattle.std.specs.Prelude.{◌≡◌, ℕ, zero, suc, ◌+◌, ◌-◌, ◌*◌, ◌<◌, ◌≤◌, ◌==◌, nat_lt, nat_le, Bool, true, ◌&&◌, ◌||◌, List, [], ◌∷◌, if◌then◌else◌, codes, Ok, Err}
 use Rattle.larch_actions.specs.declared.thread_set.ThreadSet.{ThreadSet}
 use Rattle.larch_actions.specs.Sets.{set_of}
-use Rattle.trace_core.specs.declared.line.Stop.TheVariants.{More, Dead}
-use Rattle.trace_core.specs.Reading.{Reader, after_word, both, as_value, either}
+use Rattle.exact_text.specs.declared.stop.Stop.TheVariants.{More, Dead}
+use Rattle.exact_text.specs.Reading.{Reader, after_word, both, as_value, either}
 
 -- some of the n numbers from v on are from least on and below the bound, where least is below it
 abbrev pub meets : ℕ → ℕ → ℕ → ℕ → Bool

@@ -4,7 +4,7 @@ use Rattle.std.specs.declared.option.Option.{Option}
 use Rattle.larch_actions.specs.declared.event.Layout.{Layout}
 use Rattle.trace_core.specs.declared.reader_state.Progress.{Progress}
 use Rattle.trace_core.specs.declared.reader_state.Phase.{Phase}
-use Rattle.trace_core.specs.Intake.{rest_of, room_of}
+use Rattle.exact_text.specs.Intake.{rest_of, room_of}
 
 pub record Standing : Type 0 where
   -- the bytes that aren't read yet, where the source tells them

@@ -6,12 +6,13 @@ use Rattle.std.specs.declared.result.Result.{Result}
 use Rattle.larch_actions.specs.declared.event.Layout.{Layout}
 use Rattle.larch_actions.specs.declared.event.Event.{Event}
 use Rattle.larch_actions.specs.Layout.{IsLawful, HasNames}
-use Rattle.trace_core.specs.declared.intake.TextFault.{TextFault}
+use Rattle.exact_text.specs.declared.fault.TextFault.{TextFault}
 use Rattle.trace_core.specs.declared.line.Expect.TheVariants as expect
 use Rattle.trace_core.specs.declared.line.Line.TheVariants as line
 use Rattle.trace_core.specs.declared.reader_state.Progress.{Progress}
 use Rattle.trace_core.specs.declared.reader_state.Phase.TheVariants as phase
-use Rattle.trace_core.specs.Intake.{HasReason, LacksAt, IsUndecided}
+use Rattle.exact_text.specs.Exact.{HasReason, bytes_room}
+use Rattle.trace_core.specs.Lacking.{LacksAt, IsUndecided}
 use Rattle.trace_core.specs.Lines.{line_at}
 use Rattle.trace_core.specs.Made.{IsMade}
 use Rattle.trace_core.specs.Standing.{Standing}
@@ -62,7 +63,7 @@ pub record TakesEnd (old new : Standing) : Type 0 where
 -- The fault has its reason, and stays. None of the texts of the lawful values was there to be given.
 pub record Breaks {X : Type 0} (Text : List ℕ → Type 0) (lawful : X → Type 0) (text : X → List ℕ) (old new : Standing)
     (left' : Option (List ℕ)) (before now : ℕ) (fault : TextFault) : Type 0 where
-  pub reason : HasReason Text old.lines old.room old.rest left' before now fault
+  pub reason : HasReason Text (bytes_room old.room) old.lines old.rest left' before now fault
   pub lacks : LacksAt lawful text old.room old.rest left' fault
   pub phase : new.phase ≡ phase.Failed fault
 

@@ -2,12 +2,11 @@
 ghost use Rattle.std.specs.Prelude.{◌≡◌, ◌<◌, true, Err};
 ghost use Rattle.larch_actions.specs.Rows.{word_text};
 ghost use Rattle.larch_actions.specs.Layout.{IsLawful};
-ghost use Rattle.trace_core.specs.Reading.{Gives, word_at};
+ghost use Rattle.exact_text.specs.Reading.{Gives, word_at};
 ghost use Rattle.trace_core.specs.Lines.{stop_of, gap_of, are_some, is_in, may_stand, ending_at, name_at, behind_at, row_at, action_at};
 
-use crate::line::Stop;
 use crate::names::names;
-use crate::token::{flag, number, word};
+use exact_text::{Stop, flag, number, word};
 use larch_actions::{
     Action, Ending, Endings, Kind, Kinds, Layout, Numbers, Row, Version, WORDS, Word,
 };

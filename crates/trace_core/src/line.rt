@@ -1,21 +1,15 @@
 //! The lines of a trace text.
 ghost use Rattle.std.specs.Prelude.{◌≡◌, ◌+◌, ◌≤◌, ◌<◌, length, codes};
 ghost use Rattle.larch_actions.specs.Layout.{IsLawful, most_objects};
-ghost use Rattle.trace_core.specs.Reading.{Gives, both, as_value};
+ghost use Rattle.exact_text.specs.Reading.{Gives, both, as_value};
 ghost use Rattle.trace_core.specs.Lines.{IsPossible, named_at, event_at, end_at, event_or_end_at, head_at, layout_from, counts_at, value_at, line_at};
 
 use crate::action::action;
 use crate::names::number_from;
-use crate::token::{flag, last_number, named, number, place_and_t, word};
+use crate::token::{named, place_and_t};
+use exact_text::{Stop, flag, long_number, number, word};
 use itoa::Buffer;
 use larch_actions::{Event, Layout, MOST_OBJECTS, ThreadId, Version};
-
-/// Why nothing was read: the bytes are only a prefix of what could be read, or no prefix of it.
-#[derive(Clone, Copy)]
-pub enum Stop {
-    More,
-    Dead,
-}
 
 /// A line of a trace text.
 #[derive(Clone, Copy)]
@@ -121,9 +115,9 @@ fn last_counts(bytes: &[u8], version: Version, threads: u32) -> Result<(Layout, 
     Ok((layout, rest))
 }
 
-// Reads the layout line of a text of the version.
-fn counts(bytes: &[u8], version: Version) -> Result<(Line, &[u8]), Stop>
-    ensures { Gives (λ x. (x.0, x.1.now)) result (as_value Line.Counts (counts_at version) bytes.now) }
+/// Reads the layout line of a text of the version, and returns what follows it.
+pub fn layout_line(bytes: &[u8], version: Version) -> Result<(Layout, &[u8]), Stop>
+    ensures { Gives (λ x. (x.0, x.1.now)) result (counts_at version bytes.now) }
 {
     let rest = match word(bytes, b"threads ") {
         Ok(rest) => rest,
@@ -133,7 +127,14 @@ fn counts(bytes: &[u8], version: Version) -> Result<(Line, &[u8]), Stop>
         Ok(read) => read,
         Err(stop) => return Err(stop),
     };
-    match last_counts(rest, version, threads) {
+    last_counts(rest, version, threads)
+}
+
+// The same as a line.
+fn counts(bytes: &[u8], version: Version) -> Result<(Line, &[u8]), Stop>
+    ensures { Gives (λ x. (x.0, x.1.now)) result (as_value Line.Counts (counts_at version) bytes.now) }
+{
+    match layout_line(bytes, version) {
         Ok((layout, rest)) => Ok((Line::Counts(layout), rest)),
         Err(stop) => Err(stop),
     }
@@ -153,7 +154,7 @@ fn value<'b>(bytes: &'b [u8], layout: &Layout, least: u32) -> Result<(Line, &'b 
         Err(stop) => return Err(stop),
     };
     let mutex = name.value;
-    match last_number(name.rest) {
+    match long_number(name.rest, 0, b'\n') {
         Ok((value, rest)) => Ok((Line::Value { mutex, value }, rest)),
         Err(stop) => Err(stop),
     }

@@ -1,10 +1,9 @@
 //! Reading names in rising order.
 ghost use Rattle.std.specs.Prelude.{◌≡◌, ◌+◌, ◌^◌, ◌<◌, ◌≤◌};
-ghost use Rattle.trace_core.specs.Reading.{Gives, as_value};
+ghost use Rattle.exact_text.specs.Reading.{Gives, as_value};
 ghost use Rattle.trace_core.specs.Names.{meets, reaches, may_stop, number_from, tail_at, names_at, set_from};
 
-use crate::line::Stop;
-use crate::token::word;
+use exact_text::{Stop, word};
 use larch_actions::{ThreadId, ThreadSet};
 
 // Whether some of the `n` numbers from `v` on are from `least` on and below the bound, where `least` is below it.

@@ -1,49 +1,36 @@
 //! The line that comes next.
-ghost use Rattle.std.specs.Prelude.{◌≡◌, ◌⊎◌, ◌+◌, ◌<◌, length, IfOk, IfErr, OnOk, OnErr};
+ghost use Rattle.std.specs.Prelude.{◌≡◌, ◌⊎◌, ◌+◌, length, IfOk, IfErr, OnOk, OnErr};
 ghost use Rattle.std.specs.Io.KnownBytes.{Consumes};
 ghost use Rattle.trace_core.specs.Lines.{IsPossible, IsAllowed, IsTextFrom, line_text, line_at};
-ghost use Rattle.trace_core.specs.Intake.{rest_of, room_of, HasReason, LacksAt, IsTold};
+ghost use Rattle.exact_text.specs.Exact.{HasReason, bytes_room};
+ghost use Rattle.exact_text.specs.Intake.{rest_of, room_of, IsTold};
+ghost use Rattle.trace_core.specs.Lacking.{LacksAt};
 
-use crate::intake::{Intake, TextFault};
-use crate::line::{Expect, Line, Stop, line_of};
-use firefly_outside::{Source, Window};
+use crate::line::{Expect, Line, line_of};
+use exact_text::{Intake, NextLine, Stop, TextFault, take_line as take};
+use firefly_outside::Source;
 
-// Reads the line that comes next from the window.
-fn try_line(window: &mut Window, expect: &Expect) -> Result<Line, Stop>
-    requires { IsPossible expect.now }
-    ensures line { IfOk result (λ x. line_at expect.now window.old ≡ Ok (x, window.new)) }
-    ensures stop { IfErr result (λ s. line_at expect.now window.old ≡ Err s) }
-    ensures same { OnErr result (window.new ≡ window.old) }
-    ensures shorter { OnOk result (length window.new < length window.old) }
-{
-    let bytes = window.bytes();
-    match line_of(bytes, expect) {
-        Ok((line, rest)) => {
-            let used = bytes.len() - rest.len();
-            window.skip(used);
-            Ok(line)
-        }
-        Err(stop) => Err(stop),
-    }
-}
+impl NextLine for Expect {
+    ghost use Rattle.trace_core.specs.Readable.{IsReadable};
 
-// Reads the line that comes next from the window, and counts it.
-fn read(intake: &mut Intake, expect: &Expect) -> Result<Line, Stop>
-    requires { IsPossible expect.now }
-    ensures line { IfOk result (λ x. line_at expect.now intake.old.window ≡ Ok (x, intake.new.window)) }
-    ensures counted { OnOk result (intake.new.lines ≡ intake.old.lines + 1) }
-    ensures given { intake.new.given ≡ intake.old.given }
-    ensures budget { intake.new.budget ≡ intake.old.budget }
-    ensures stop { IfErr result (λ s. line_at expect.now intake.old.window ≡ Err s) }
-    ensures same_window { OnErr result (intake.new.window ≡ intake.old.window) }
-    ensures same_lines { OnErr result (intake.new.lines ≡ intake.old.lines) }
-{
-    match try_line(&mut intake.window, expect) {
-        Ok(line) => {
-            intake.lines += 1;
-            Ok(line)
-        }
-        Err(stop) => Err(stop),
+    type Line = Line;
+
+    ghost is_possible = { IsReadable };
+
+    ghost is_lawful = { IsAllowed };
+
+    ghost text = { line_text };
+
+    ghost reads = { line_at };
+
+    ghost is_exact = { λ x ok. ok.exact };
+
+    ghost is_line = { λ x ok. ok.lines };
+
+    ghost is_some = { λ x ok. ok.some };
+
+    fn read<'b>(&self, bytes: &'b [u8]) -> Result<(Line, &'b [u8]), Stop> {
+        line_of(bytes, self)
     }
 }
 
@@ -59,7 +46,7 @@ pub fn take_line<I: Source>(
     ensures room { IfOk result (λ x. room_of intake.new + length (line_text expect.now x) ≡ room_of intake.old) }
     ensures lines { OnOk result (intake.new.lines ≡ intake.old.lines + 1) }
     ensures budget { OnOk result (intake.new.budget ≡ intake.old.budget) }
-    ensures fault { IfErr result (HasReason (IsTextFrom expect.now) intake.old.lines (room_of intake.old)
+    ensures fault { IfErr result (HasReason (IsTextFrom expect.now) (bytes_room (room_of intake.old)) intake.old.lines
         (rest_of intake.old (I.left input.old)) (I.left input.new) (I.faults input.old) (I.faults input.new)) }
     ensures lacks { IfErr result (LacksAt (IsAllowed expect.now) (line_text expect.now) (room_of intake.old)
         (rest_of intake.old (I.left input.old)) (I.left input.new)) }
@@ -69,16 +56,5 @@ pub fn take_line<I: Source>(
         ⊎ (line_at expect.now intake.old.window ≡ Err Stop.More)) }
     ensures asks_first { OnErr result ((input.new ≡ input.old) ⊎ (line_at expect.now intake.old.window ≡ Err Stop.More)) }
 {
-    loop {
-        match read(intake, expect) {
-            Ok(line) => return Ok(line),
-            Err(Stop::Dead) => return Err(TextFault::BadLine(intake.lines + 1)),
-            Err(Stop::More) => {}
-        }
-        match intake.fill(input) {
-            Ok(true) => {}
-            Ok(false) => return Err(TextFault::BadLine(intake.lines + 1)),
-            Err(fault) => return Err(fault),
-        }
-    }
+    take(intake, input, expect)
 }

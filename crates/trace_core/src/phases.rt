@@ -4,15 +4,16 @@ ghost use Rattle.trace_core.specs.declared.reader_state.Phase.TheVariants as pha
 ghost use Rattle.trace_core.specs.Text.{IsTrace, head_text};
 ghost use Rattle.larch_actions.specs.Layout.{IsLawful};
 ghost use Rattle.trace_core.specs.Usual.{IsEventAt};
-ghost use Rattle.trace_core.specs.Intake.{IsTold, IsUndecided};
+ghost use Rattle.exact_text.specs.Intake.{IsTold};
+ghost use Rattle.trace_core.specs.Lacking.{IsUndecided};
 ghost use Rattle.trace_core.specs.Standing.{standing_of};
 ghost use Rattle.trace_core.specs.Steps.{TakesHead, Breaks, GoesOn, IsEventOpen, IsTaken};
 
-use crate::intake::{Intake, TextFault};
 use crate::place::Place;
 use crate::reader_state::{Phase, Progress};
 use crate::sections::{take_event, take_head};
 use crate::usual::{UsualEvent, usual_event};
+use exact_text::{Intake, TextFault};
 use firefly_outside::Source;
 use larch_actions::{Event, Layout};
 

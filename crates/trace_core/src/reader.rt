@@ -1,17 +1,17 @@
 //! A reader of trace texts.
 ghost use Rattle.std.specs.Prelude.{◌≡◌, ◌≢◌, ◌⊎◌, ◌≤◌, ◌++◌, ◌^◌, ◌-◌, ◌<◌, IfOk, IfErr, IfSome, IfNone, OnOk};
-ghost use Rattle.trace_core.specs.declared.intake.TextFault.{TextFault};
+ghost use Rattle.exact_text.specs.declared.fault.TextFault.{TextFault};
 ghost use Rattle.trace_core.specs.declared.reader_state.Phase.TheVariants as phase;
 ghost use Rattle.trace_core.specs.Text.{IsTrace, IsRest, head_text, event_line};
 ghost use Rattle.larch_actions.specs.Layout.{IsLawful, HasNames};
 ghost use Rattle.trace_core.specs.Steps.{TakesHead, TakesEvent, TakesEnd, Breaks};
-ghost use Rattle.trace_core.specs.Intake.{IsUndecided};
+ghost use Rattle.trace_core.specs.Lacking.{IsUndecided};
 ghost use Rattle.trace_core.specs.Reader.{IsFresh, standing, input_of, held_of};
 
-use crate::intake::{Intake, TextFault};
 use crate::phases::{begin, go_on};
 use crate::place::Place;
 use crate::reader_state::{Phase, Progress};
+use exact_text::{Intake, TextFault};
 use firefly_outside::Source;
 use larch_actions::{Event, Layout};
 

@@ -3,28 +3,18 @@ ghost use Rattle.std.specs.Prelude.{◌≡◌, ◌⊎◌, ◌+◌, ◌<◌, ◌�
 ghost use Rattle.std.specs.Io.KnownBytes.{Consumes};
 ghost use Rattle.larch_actions.specs.Layout.{IsLawful, HasNames};
 ghost use Rattle.trace_core.specs.Text.{head_text, event_line, IsTrace, IsRest, IsValues};
-ghost use Rattle.trace_core.specs.Intake.{rest_of, room_of, HasReason, LacksAt, IsAsked, IsTold, IsUndecided};
+ghost use Rattle.exact_text.specs.Intake.{rest_of, room_of, IsTold};
+ghost use Rattle.exact_text.specs.Exact.{HasReason, bytes_room};
+ghost use Rattle.trace_core.specs.Lacking.{LacksAt, IsUndecided};
 ghost use Rattle.trace_core.specs.Made.{IsMade};
-ghost use Rattle.trace_core.specs.Prefixes.{Begins};
+ghost use Rattle.exact_text.specs.Prefixes.{Begins};
 ghost use Rattle.trace_core.specs.Steps.{IsEnding};
 
-use crate::intake::{Intake, TextFault};
 use crate::line::{Expect, Line};
 use crate::next_line::take_line;
+use exact_text::{Intake, TextFault};
 use firefly_outside::Source;
 use larch_actions::{Event, Layout};
-
-// Whether a byte is left. Where none was held, the source is asked.
-fn goes_on<I: Source>(intake: &mut Intake, input: &mut I) -> Result<bool, TextFault>
-    ensures asked { IsAsked intake.old intake.new (I.left input.old) (I.left input.new) (I.faults input.old) (I.faults input.new) result }
-    ensures told { IsTold (I.faults input.old) (I.faults input.new) result }
-    ensures asks { ((input.new ≡ input.old) × (intake.new ≡ intake.old)) ⊎ (intake.old.window ≡ []) }
-{
-    if intake.window.len() > 0 {
-        return Ok(true);
-    }
-    intake.fill(input)
-}
 
 /// Takes the value lines of mutexes from `least` on, and the end of the input.
 pub fn take_values<I: Source>(
@@ -36,12 +26,12 @@ pub fn take_values<I: Source>(
     requires { IsLawful layout.now }
     ensures end { OnOk result (IfSome (rest_of intake.old (I.left input.old)) (λ bytes. IsValues layout.now least bytes
         × (length bytes ≤ room_of intake.old))) }
-    ensures fault { IfErr result (HasReason (IsValues layout.now least) intake.old.lines (room_of intake.old)
+    ensures fault { IfErr result (HasReason (IsValues layout.now least) (bytes_room (room_of intake.old)) intake.old.lines
         (rest_of intake.old (I.left input.old)) (I.left input.new) (I.faults input.old) (I.faults input.new)) }
     ensures told { IsTold (I.faults input.old) (I.faults input.new) result }
     ensures asks { (input.new ≡ input.old) ⊎ Begins (IsValues layout.now least) intake.old.window }
 {
-    match goes_on(intake, input) {
+    match intake.goes_on(input) {
         Ok(true) => {}
         Ok(false) => return Ok(()),
         Err(fault) => return Err(fault),
@@ -75,7 +65,7 @@ pub fn take_event<I: Source>(
     ensures lines { IfOk result (λ found. IfSome found (λ _. intake.new.lines ≡ intake.old.lines + 1)) }
     ensures end { IfOk result (λ found. IfNone found (IfSome (rest_of intake.old (I.left input.old))
         (λ bytes. IsEnding layout.now place bytes × (length bytes ≤ room_of intake.old)))) }
-    ensures fault { IfErr result (HasReason (IsRest layout.now place) intake.old.lines (room_of intake.old)
+    ensures fault { IfErr result (HasReason (IsRest layout.now place) (bytes_room (room_of intake.old)) intake.old.lines
         (rest_of intake.old (I.left input.old)) (I.left input.new) (I.faults input.old) (I.faults input.new)) }
     ensures lacks { IfErr result (LacksAt (HasNames layout.now) (event_line place) (room_of intake.old)
         (rest_of intake.old (I.left input.old)) (I.left input.new)) }
@@ -104,7 +94,7 @@ pub fn take_head<I: Source>(intake: &mut Intake, input: &mut I) -> Result<Layout
         (rest_of intake.new (I.left input.new)) (head_text l)) }
     ensures room { IfOk result (λ l. room_of intake.new + length (head_text l) ≡ room_of intake.old) }
     ensures lines { OnOk result (intake.new.lines ≡ intake.old.lines + 2) }
-    ensures fault { IfErr result (HasReason IsTrace intake.old.lines (room_of intake.old) (rest_of intake.old (I.left input.old))
+    ensures fault { IfErr result (HasReason IsTrace (bytes_room (room_of intake.old)) intake.old.lines (rest_of intake.old (I.left input.old))
         (I.left input.new) (I.faults input.old) (I.faults input.new)) }
     ensures lacks { IfErr result (LacksAt IsLawful head_text (room_of intake.old)
         (rest_of intake.old (I.left input.old)) (I.left input.new)) }

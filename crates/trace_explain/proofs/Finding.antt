@@ -4,8 +4,8 @@ use Rattle.std.specs.declared.option.Option.{Option}
 use Rattle.larch_actions.specs.declared.event.Layout.{Layout}
 use Rattle.larch_actions.specs.declared.event.Event.{Event}
 use Rattle.larch_actions.specs.declared.event.Broken.{Broken}
-use Rattle.trace_core.specs.declared.intake.TextFault.{TextFault}
-use Rattle.trace_core.specs.declared.intake.TextFault.TheVariants as fault
+use Rattle.exact_text.specs.declared.fault.TextFault.{TextFault}
+use Rattle.exact_text.specs.declared.fault.TextFault.TheVariants as fault
 use Rattle.trace_check.specs.declared.checker.Verdict.{Verdict}
 use Rattle.trace_check.specs.declared.checker.Verdict.TheVariants.{Legal, Illegal, BadLine, TooLong, ReadFault}
 use Rattle.trace_check.specs.Verdicts.{refusal}
@@ -30,6 +30,7 @@ never_illegal : (place : ℕ) (why : Broken) (f : TextFault) → Illegal place w
 never_illegal place why (fault.BadLine k) e = subst is_illegal e tt
 never_illegal place why fault.TooLong e = subst is_illegal e tt
 never_illegal place why fault.Read e = subst is_illegal e tt
+never_illegal place why fault.Memory e = subst is_illegal e tt
 
 module _ {W : Type 0} (keeps : W → Layout → List Event → W → Type 0) (budget : ℕ) (w w' : W) (k : Kept) (kept : (l : Layout) (es : List Event) → keeps w l es w' → k ≡ kept_since (behind [] es)) where
   -- an event that fails is the input's

@@ -10,8 +10,8 @@ use Rattle.larch_actions.specs.declared.event.Event.{Event}
 use Rattle.larch_actions.specs.declared.event.Broken.{Broken}
 use Rattle.larch_actions.specs.Actions.{Acts, Fails, at_first}
 use Rattle.larch_actions.specs.State.{Moment, spec_of, held, waiting, alerted}
-use Rattle.trace_core.specs.declared.intake.TextFault.{TextFault}
-use Rattle.trace_core.specs.declared.intake.TextFault.TheVariants as fault
+use Rattle.exact_text.specs.declared.fault.TextFault.{TextFault}
+use Rattle.exact_text.specs.declared.fault.TextFault.TheVariants as fault
 use Rattle.trace_core.specs.Standing.{Standing}
 use Rattle.trace_core.specs.Steps.{TakesHead, TakesEvent, TakesEnd}
 use Rattle.trace_core.specs.Whole.{Flows}
@@ -158,6 +158,7 @@ module _ (budget : ℕ) (left₀ : Option (List ℕ)) (before now : ℕ) (p : St
 -- the verdict on a text that can't be read, with what was drawn until then
 pub refused_drawn : (budget : ℕ) (v : View) (left₀ told₀ told' : Option (List ℕ)) (f : TextFault) → IfSome left₀ (λ bytes. GotCut budget v bytes told₀ told') → IsDrawn budget v left₀ told₀ told' (refusal f)
 refused_drawn budget v None told₀ told' f h = tt
+refused_drawn budget v (Some bytes) told₀ told' fault.Memory h = h
 refused_drawn budget v (Some bytes) told₀ told' (fault.BadLine k) h = h
 refused_drawn budget v (Some bytes) told₀ told' fault.TooLong h = h
 refused_drawn budget v (Some bytes) told₀ told' fault.Read h = h

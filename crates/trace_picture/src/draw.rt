@@ -35,7 +35,7 @@ fn refused(fault: TextFault) -> Verdict
     match fault {
         TextFault::BadLine(line) => Verdict::BadLine(line),
         TextFault::TooLong => Verdict::TooLong,
-        TextFault::Read => Verdict::ReadFault,
+        TextFault::Read | TextFault::Memory => Verdict::ReadFault,
     }
 }
 

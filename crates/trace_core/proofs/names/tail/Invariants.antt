@@ -1,6 +1,6 @@
 use Rattle.std.proofs.Common.{◌≡◌, ◌<◌, ◌≤◌, ◌+◌, ◌-◌, ℕ, List}
 use Rattle.larch_actions.specs.Sets.{set_of}
-use Rattle.trace_core.specs.Reading.{as_value}
+use Rattle.exact_text.specs.Reading.{as_value}
 use Rattle.trace_core.specs.Names.{tail_at, set_from, onto}
 use Rattle.trace_core.proofs.names.tail.Given as goal
 

@@ -1,4 +1,4 @@
-use Rattle.trace_core.proofs.Told.{same_told}
+use Rattle.exact_text.proofs.Told.{same_told}
 use Rattle.trace_core.proofs.phases.begin.Goals as goal
 
 pub returns-in-Ok-clause-told : goal.returns-in-Ok-clause-told

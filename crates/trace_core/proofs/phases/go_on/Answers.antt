@@ -1,6 +1,6 @@
 use Rattle.std.proofs.Common.{refl, arith}
 use Rattle.trace_core.proofs.UsualEvents.{usual_takes}
-use Rattle.trace_core.proofs.Told.{same_told}
+use Rattle.exact_text.proofs.Told.{same_told}
 use Rattle.trace_core.proofs.phases.go_on.Goals as goal
 
 pub returns-in-Some-clause-goes : goal.returns-in-Some-clause-goes

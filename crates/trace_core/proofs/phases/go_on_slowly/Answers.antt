@@ -1,5 +1,5 @@
 use Rattle.std.proofs.Common.{refl}
-use Rattle.trace_core.proofs.Told.{same_told}
+use Rattle.exact_text.proofs.Told.{same_told}
 use Rattle.trace_core.proofs.phases.go_on_slowly.Goals as goal
 
 pub returns-in-Err-clause-goes : goal.returns-in-Err-clause-goes

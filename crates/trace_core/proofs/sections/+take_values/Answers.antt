@@ -1,19 +1,21 @@
 use Rattle.std.proofs.Common.{◌≡◌, ◌+◌, ◌-◌, ◌∙◌, refl, arith}
 use Rattle.trace_core.specs.declared.line.Line.TheVariants as line
 use Rattle.trace_core.specs.declared.line.Expect.TheVariants as expect
-use Rattle.trace_core.specs.Intake.{rest_of, room_of}
-use Rattle.trace_core.proofs.Outcomes.{reason_behind}
+use Rattle.exact_text.specs.Intake.{rest_of, room_of}
+use Rattle.exact_text.proofs.Texts.{reason_behind}
+use Rattle.trace_core.proofs.LineLaws.{line_code}
+use Rattle.trace_core.proofs.Texts.{line_grammar}
 use Rattle.trace_core.proofs.Ends.{past_values, asked_reason, one_more_value, on_ok, if_err}
 use Rattle.trace_core.proofs.Asking.{value_asks, values_asks}
-use Rattle.trace_core.proofs.Told.{same_told, then_told, fault_told}
+use Rattle.exact_text.proofs.Told.{same_told, then_told, fault_told}
 use Rattle.trace_core.proofs.sections.+take_values.Goals as goal
 
 pub returns-then-least-layout-clause-fault : goal.returns-then-least-layout-clause-fault
 returns-then-least-layout-clause-fault g t c =
     let a = rw c.in-Ok-true.field-0-test at c.in-Ok-true.ensures.asked in
-    let one : c.goes_on.new.intake.lines + 1 - c.args.intake.now.lines ≡ 1 = omega (arith, a.0.1) in (
+    let one : c.goes_on.new.self.lines + 1 - c.args.intake.now.lines ≡ 1 = omega (arith, a.0.1) in (
       omega (arith, a.0.1),
-      rw one (past_values c.args.layout.now c.args.least (room_of c.args.intake.now) _ (g.I.Source.left c.goes_on.new.input) c.goes_on.new.intake.window c.if-least-layout.true a.2 (omega (arith, a.1)) a.3),
+      rw one (past_values c.args.layout.now c.args.least (room_of c.args.intake.now) _ (g.I.Source.left c.goes_on.new.input) c.goes_on.new.self.window c.if-least-layout.true a.2 (omega (arith, a.1)) a.3),
     )
 
 pub returns-in-Ok-Value-clause-end : goal.returns-in-Ok-Value-clause-end
@@ -23,7 +25,7 @@ returns-in-Ok-Value-clause-end g t c =
     let taken = rw c.in-Ok-Value.field-0-is at h.line in
     let room = rw c.in-Ok-Value.field-0-is at h.room in
     on_ok c.take_values.result
-    (one_more_value c.args.layout.now c.args.least c.in-Ok-Value.mutex c.in-Ok-Value.field-0-1 (room_of c.args.intake.now) (room_of c.take_line.new.intake) (rest_of c.args.intake.now (g.I.Source.left c.args.input.now)) (rest_of c.goes_on.new.intake (g.I.Source.left c.goes_on.new.input)) (rest_of c.take_line.new.intake (g.I.Source.left c.take_line.new.input)) a.2 taken.0 taken.1 (omega (arith, room, a.1)))
+    (one_more_value c.args.layout.now c.args.least c.in-Ok-Value.mutex c.in-Ok-Value.field-0-1 (room_of c.args.intake.now) (room_of c.take_line.new.intake) (rest_of c.args.intake.now (g.I.Source.left c.args.input.now)) (rest_of c.goes_on.new.self (g.I.Source.left c.goes_on.new.input)) (rest_of c.take_line.new.intake (g.I.Source.left c.take_line.new.input)) a.2 taken.0 taken.1 (omega (arith, room, a.1)))
     c.take_values.ensures.end
 
 pub returns-in-Ok-Value-clause-fault : goal.returns-in-Ok-Value-clause-fault
@@ -34,8 +36,8 @@ returns-in-Ok-Value-clause-fault g t c =
     let room = rw c.in-Ok-Value.field-0-is at h.room in
     let l = c.args.layout.now in
     if_err c.take_values.result
-    (λ fault r. asked_reason l c.args.least (c.requires, c.if-least-layout.false) c.args.intake.now c.goes_on.new.intake (g.I.Source.left c.args.input.now) (g.I.Source.left c.goes_on.new.input) (g.I.Source.left c.take_values.new.input) (g.I.Source.faults c.args.input.now) (g.I.Source.faults c.goes_on.new.input) (g.I.Source.faults c.take_values.new.input) fault a c.goes_on.ensures.told.later
-    (reason_behind (expect.Values l c.args.least) (c.requires, c.if-least-layout.false) (line.Value c.in-Ok-Value.mutex c.in-Ok-Value.field-0-1) taken.0
+    (λ fault r. asked_reason l c.args.least (c.requires, c.if-least-layout.false) c.args.intake.now c.goes_on.new.self (g.I.Source.left c.args.input.now) (g.I.Source.left c.goes_on.new.input) (g.I.Source.left c.take_values.new.input) (g.I.Source.faults c.args.input.now) (g.I.Source.faults c.goes_on.new.input) (g.I.Source.faults c.take_values.new.input) fault a c.goes_on.ensures.told.later
+    (reason_behind (line_grammar (expect.Values l c.args.least) (c.requires, c.if-least-layout.false)) (line_code (expect.Values l c.args.least) (c.requires, c.if-least-layout.false)) (line.Value c.in-Ok-Value.mutex c.in-Ok-Value.field-0-1) taken.0
     _ (rest_of c.take_line.new.intake (g.I.Source.left c.take_line.new.input)) _ _ _ (room_of c.take_line.new.intake) _ (g.I.Source.faults c.take_line.new.input) _
     fault taken.1 room h.told.later (rw h.lines at r)))
     c.take_values.ensures.fault
@@ -43,17 +45,17 @@ returns-in-Ok-Value-clause-fault g t c =
 pub returns-in-Err-take_line-clause-fault : goal.returns-in-Err-take_line-clause-fault
 returns-in-Err-take_line-clause-fault g t c =
     let a = rw c.in-Ok-true.field-0-test at c.in-Ok-true.ensures.asked in
-    asked_reason c.args.layout.now c.args.least (c.requires, c.if-least-layout.false) c.args.intake.now c.goes_on.new.intake (g.I.Source.left c.args.input.now) (g.I.Source.left c.goes_on.new.input) (g.I.Source.left c.take_line.new.input) (g.I.Source.faults c.args.input.now) (g.I.Source.faults c.goes_on.new.input) (g.I.Source.faults c.take_line.new.input) c.in-Err-take_line.fault a c.goes_on.ensures.told.later
+    asked_reason c.args.layout.now c.args.least (c.requires, c.if-least-layout.false) c.args.intake.now c.goes_on.new.self (g.I.Source.left c.args.input.now) (g.I.Source.left c.goes_on.new.input) (g.I.Source.left c.take_line.new.input) (g.I.Source.faults c.args.input.now) (g.I.Source.faults c.goes_on.new.input) (g.I.Source.faults c.take_line.new.input) c.in-Err-take_line.fault a c.goes_on.ensures.told.later
     c.in-Err-take_line.ensures.fault
 
 pub returns-in-Ok-Value-clause-asks : goal.returns-in-Ok-Value-clause-asks
 returns-in-Ok-Value-clause-asks g t c =
-    values_asks c.args.layout.now c.args.least c.in-Ok-Value.mutex c.in-Ok-Value.field-0-1 (c.requires, c.if-least-layout.false) c.args.intake.now c.goes_on.new.intake c.take_line.new.intake.window c.goes_on.ensures.asks
+    values_asks c.args.layout.now c.args.least c.in-Ok-Value.mutex c.in-Ok-Value.field-0-1 (c.requires, c.if-least-layout.false) c.args.intake.now c.goes_on.new.self c.take_line.new.intake.window c.goes_on.ensures.asks
     (rw c.in-Ok-Value.field-0-is at c.in-Ok-Value.ensures.asks) c.take_values.ensures.asks
 
 pub returns-in-Err-take_line-clause-asks : goal.returns-in-Err-take_line-clause-asks
 returns-in-Err-take_line-clause-asks g t c =
-    value_asks c.args.layout.now c.args.least (c.requires, c.if-least-layout.false) c.args.intake.now c.goes_on.new.intake c.goes_on.ensures.asks c.in-Err-take_line.ensures.asks_first
+    value_asks c.args.layout.now c.args.least (c.requires, c.if-least-layout.false) c.args.intake.now c.goes_on.new.self c.goes_on.ensures.asks c.in-Err-take_line.ensures.asks_first
 
 pub returns-in-Ok-false-clause-told : goal.returns-in-Ok-false-clause-told
 returns-in-Ok-false-clause-told g t c = same_told _ _ _ c.in-Ok-false.ensures.told.unfailed

@@ -1,11 +1,14 @@
 use Rattle.std.proofs.Common.{◌∙◌, refl, arith}
 use Rattle.trace_core.specs.declared.line.Line.TheVariants as line
 use Rattle.trace_core.specs.declared.line.Expect.TheVariants as expect
-use Rattle.trace_core.specs.Intake.{rest_of, room_of}
+use Rattle.exact_text.specs.Intake.{rest_of, room_of}
 use Rattle.trace_core.specs.Text.{IsValues}
-use Rattle.trace_core.proofs.Outcomes.{reason_behind, event_lacks, end_lacks}
+use Rattle.exact_text.proofs.Texts.{reason_behind}
+use Rattle.trace_core.proofs.LineLaws.{line_code}
+use Rattle.trace_core.proofs.Texts.{line_grammar}
+use Rattle.trace_core.proofs.Outcomes.{event_lacks, end_lacks}
 use Rattle.trace_core.proofs.Asking.{asked_or_not, event_asks, end_asks}
-use Rattle.trace_core.proofs.Told.{same_told, fault_told}
+use Rattle.exact_text.proofs.Told.{same_told, fault_told}
 use Rattle.trace_core.proofs.sections.take_event.Goals as goal
 
 pub returns-in-Err-take_values-clause-fault : goal.returns-in-Err-take_values-clause-fault
@@ -13,7 +16,7 @@ returns-in-Err-take_values-clause-fault g c =
     let h = c.in-Ok-End.ensures in
     let taken = rw c.in-Ok-End.field-0-is at h.line in
     let room = rw c.in-Ok-End.field-0-is at h.room in
-    reason_behind (expect.Events c.args.layout.now c.args.place) (c.requires.lawful, omega (arith, c.requires.placed)) line.End tt
+    reason_behind (line_grammar (expect.Events c.args.layout.now c.args.place) (c.requires.lawful, omega (arith, c.requires.placed))) (line_code (expect.Events c.args.layout.now c.args.place) (c.requires.lawful, omega (arith, c.requires.placed))) line.End tt
     _ (rest_of c.take_line.new.intake (g.I.Source.left c.take_line.new.input)) _ _ _ (room_of c.take_line.new.intake) _ (g.I.Source.faults c.take_line.new.input) _
     c.in-Err-take_values.fault taken.1 room h.told.later (rw h.lines at c.in-Err-take_values.ensures.fault)
 

@@ -4,11 +4,14 @@ use Rattle.std.specs.Io.KnownBytes.{Consumes}
 use Rattle.larch_actions.specs.declared.event.Version.{Version}
 use Rattle.trace_core.specs.declared.line.Line.TheVariants as line
 use Rattle.trace_core.specs.declared.line.Expect.TheVariants as expect
-use Rattle.trace_core.specs.Intake.{rest_of, room_of}
+use Rattle.exact_text.specs.Intake.{rest_of, room_of}
 use Rattle.trace_core.specs.Text.{first_line, layout_line}
-use Rattle.trace_core.proofs.Outcomes.{reason_behind, first_lacks, counts_lacks}
+use Rattle.exact_text.proofs.Texts.{reason_behind}
+use Rattle.trace_core.proofs.LineLaws.{line_code}
+use Rattle.trace_core.proofs.Texts.{line_grammar}
+use Rattle.trace_core.proofs.Outcomes.{first_lacks, counts_lacks}
 use Rattle.trace_core.proofs.Asking.{asked_or_not, first_asks, head_asks}
-use Rattle.trace_core.proofs.Told.{same_told, fault_told}
+use Rattle.exact_text.proofs.Told.{same_told, fault_told}
 use Rattle.trace_core.proofs.sections.take_head.Goals as goal
 
 pub returns-in-Err-take_line-clause-fault : goal.returns-in-Err-take_line-clause-fault
@@ -16,7 +19,7 @@ returns-in-Err-take_line-clause-fault g c =
     let h = c.in-Ok-Head.ensures in
     let taken = rw c.in-Ok-Head.field-0-is at h.line in
     let room = rw c.in-Ok-Head.field-0-is at h.room in
-    reason_behind expect.Head tt (line.Head c.in-Ok-Head.version) tt
+    reason_behind (line_grammar expect.Head tt) (line_code expect.Head tt) (line.Head c.in-Ok-Head.version) tt
     _ (rest_of c.take_line.new.intake (g.I.Source.left c.take_line.new.input)) _ _ _ (room_of c.take_line.new.intake) _ (g.I.Source.faults c.take_line.new.input) _
     c.in-Err-take_line.fault taken.1 room h.told.later (rw h.lines at c.in-Err-take_line.ensures.fault)
 

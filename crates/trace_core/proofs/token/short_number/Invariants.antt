@@ -1,5 +1,5 @@
 use Rattle.std.proofs.Common.{◌≡◌, ◌^◌, length}
-use Rattle.trace_core.specs.Reading.{digits_at, number_at}
+use Rattle.exact_text.specs.Reading.{digits_at, number_at}
 use Rattle.trace_core.proofs.token.short_number.Given as goal
 
 abbrev pub invariant-loop-rest : goal.invariant-loop-rest

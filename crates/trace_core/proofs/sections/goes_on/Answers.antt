@@ -1,9 +1,0 @@
-use Rattle.std.proofs.Common.{refl}
-use Rattle.trace_core.proofs.Told.{same_told}
-use Rattle.trace_core.proofs.sections.goes_on.Goals as goal
-
-pub returns-then-len-gt0-clause-told : goal.returns-then-len-gt0-clause-told
-returns-then-len-gt0-clause-told g c = same_told _ _ _ refl
-
-pub returns-clause-told : goal.returns-clause-told
-returns-clause-told g c = c.fill.ensures.told

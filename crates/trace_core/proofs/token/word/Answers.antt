@@ -1,8 +1,0 @@
-use Rattle.std.proofs.Common.{◌∙◌, arith}
-use Rattle.trace_core.proofs.Words.{word_step}
-use Rattle.trace_core.proofs.token.word.Goals as goal
-
-pub loop-i-preserved : goal.loop-i-preserved
-loop-i-preserved c =
-    let i = c.loop-i.invariant in
-    record { within = omega arith; same = word_step c.args.word.now c.args.bytes.now c.loop-i.i c.loop-i-test.true (omega arith) c.if-bytes-i.false ∙ i.same }
