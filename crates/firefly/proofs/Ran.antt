@@ -1,22 +1,25 @@
 -- The numbers of the mutexes, and the status for the bytes of an input.
-use Rattle.std.proofs.Common.{◌≡◌, ◌≢◌, ◌⊎◌, ℕ, zero, suc, ◌+◌, ◌<◌, ◌≤◌, List, [], ◌∷◌, length, get_or, refl, ap, sym, ◌∙◌, subst, inl, inr, Some, IfSome, Option, arith}
+use Rattle.std.proofs.Common.{◌≡◌, ◌≢◌, ◌⊎◌, ℕ, zero, suc, ◌+◌, ◌-◌, ◌<◌, ◌≤◌, List, [], ◌∷◌, length, get_or, refl, ap, sym, ◌∙◌, subst, inl, inr, Some, IfSome, Option, arith}
 use Rattle.larch_actions.specs.declared.event.Event.{Event}
 use Rattle.larch_actions.specs.Actions.{IsClosed, by_thread}
 use Rattle.trace_core.specs.Text.{MutexValue, ReadsAs, trace_text}
 use Rattle.trace_core.specs.Whole.{numbered}
 use Rattle.larch_actions.specs.declared.event.Layout.{Layout}
 use Rattle.script_text.specs.declared.line.Line.{Line}
-use Rattle.script_text.specs.declared.script.ScriptFault.{ScriptFault}
-use Rattle.script_text.specs.declared.script.ScriptFault.TheVariants as script
+use Rattle.exact_text.specs.declared.fault.TextFault.{TextFault}
+use Rattle.exact_text.specs.declared.fault.TextFault.TheVariants as fault
+use Rattle.exact_text.specs.Exact.{IsShown, IsTooLong, OneAnswer, lines_room}
+use Rattle.exact_text.proofs.Shown.{one_answer}
 use Rattle.script_text.specs.Layouts.{head_lines}
-use Rattle.script_text.specs.Faults.{IsBadLine, IsTooLong}
+use Rattle.script_text.specs.Texts.{most_lines, IsShortText}
+use Rattle.script_text.proofs.Scripts.{within_lines}
 use Rattle.script_text.specs.Runs.{AreEventsOf, total}
 use Rattle.script_text.specs.Text as text
-use Rattle.script_text.proofs.Answered.{one_answer}
 use Rattle.command_endings.specs.declared.status.Status.{Status}
 use Rattle.command_endings.specs.declared.status.Status.TheVariants.{Done, SinkFault, Memory, BadText, TooLong}
 use Rattle.command_endings.specs.Changes.{Change, IsStill}
-use Rattle.firefly.specs.RunCommand.{totals_from, IsTraceOf, RunAnswers, Runs, Refuses, Decides, SaysFault}
+use Rattle.command_endings.specs.Endings.{SaysFault}
+use Rattle.firefly.specs.RunCommand.{totals_from, IsTraceOf, RunAnswers, Runs, Refuses, Decides}
 
 pub numbered_totals : (xs : List Line) (k n : ℕ) (vs : List ℕ) → length vs ≡ n → ((m : ℕ) → m < n → get_or vs m 0 ≡ total xs (k + m)) → numbered k vs ≡ totals_from k n xs
 numbered_totals xs k zero [] size each = refl
@@ -63,7 +66,17 @@ is_trace k l xs h vs bytes same size each reads closed own =
 pub known : {A : Type 0} (P : A → Type 0) (o : Option A) (x : A) → o ≡ Some x → IfSome o P → P x
 known P o x e h = subst (λ z. IfSome z P) e h
 
-module _ (input out notes : Change) (l : Layout) (xs : List Line) (status : Status) (few : head_lines l.version + length xs ≤ 100000) (whole : IfSome input.old (λ bytes. text.ReadsAs bytes l xs)) where
+only : OneAnswer text.IsScriptText (lines_room most_lines)
+only = one_answer text.IsScriptText (lines_room most_lines)
+
+-- a script of at most so many lines is neither bad nor too long
+short_or_bad : (bytes : List ℕ) (k : ℕ) → IsShortText bytes → IsShown text.IsScriptText (lines_room most_lines bytes) bytes k → ⊥
+short_or_bad bytes k (l, xs, r, few) bad = only.text_or_bad bytes k (l, xs, r) (within_lines bytes l xs r few) bad
+
+short_or_long : (bytes : List ℕ) → IsShortText bytes → IsTooLong text.IsScriptText (lines_room most_lines bytes) bytes → ⊥
+short_or_long bytes (l, xs, r, few) long = only.text_or_long bytes (within_lines bytes l xs r few) long
+
+module _ (input out notes : Change) (l : Layout) (xs : List Line) (status : Status) (few : head_lines l.version + length xs ≤ most_lines) (whole : IfSome input.old (λ bytes. text.ReadsAs bytes l xs)) where
   ended : Runs l xs out notes status → status ≢ Memory → (status ≡ Done) ⊎ (status ≡ SinkFault)
   ended (inl (bytes, trace, inl p)) some = inl p.0
   ended (inl (bytes, trace, inr p)) some = inr p.0
@@ -74,37 +87,44 @@ module _ (input out notes : Change) (l : Layout) (xs : List Line) (status : Stat
       let text = known (λ b. text.ReadsAs b l xs) input.old bytes told whole in
       record {
         done = λ short. ended runs some;
-        bad_line = λ k bad long. absurd (one_answer.text_or_bad bytes k (l, xs, text, few) bad);
-        too_long = λ long. absurd (one_answer.text_or_long bytes (l, xs, text, few) long);
+        bad_line = λ k bad. absurd (short_or_bad bytes k (l, xs, text, few) bad);
+        too_long = λ long. absurd (short_or_long bytes (l, xs, text, few) long);
       }
 
-bad_line_decides : (input : Change) (k : ℕ) → Refuses input (script.BadLine k) → Decides input BadText
+-- a reason names the line itself
+shown : (input : Change) (k : ℕ) → Refuses input (fault.BadLine k) → IfSome input.old (λ b. IsShown text.IsScriptText (lines_room most_lines b) b k)
+shown input k h =
+    let same : k - 0 ≡ k = omega arith in
+    let P : ℕ → Type 0 = λ j. IfSome input.old (λ b. IsShown text.IsScriptText (lines_room most_lines b) b j) in
+    subst P same h.1
+
+bad_line_decides : (input : Change) (k : ℕ) → Refuses input (fault.BadLine k) → Decides input BadText
 bad_line_decides input k h bytes told read some =
-    let b = known (λ i. IsBadLine i k × (IsTooLong i → ⊥)) input.old bytes told h in
+    let b = known (λ i. IsShown text.IsScriptText (lines_room most_lines i) i k) input.old bytes told (shown input k h) in
     record {
-      done = λ short. absurd (one_answer.text_or_bad bytes k short b.0);
-      bad_line = λ j bad long. refl;
-      too_long = λ long. absurd (b.1 long);
+      done = λ short. absurd (short_or_bad bytes k short b);
+      bad_line = λ j bad. refl;
+      too_long = λ long. absurd (only.bad_or_long bytes k b long);
     }
 
-too_long_decides : (input : Change) → Refuses input script.TooLong → Decides input TooLong
+too_long_decides : (input : Change) → Refuses input fault.TooLong → Decides input TooLong
 too_long_decides input h bytes told read some =
-    let t = known IsTooLong input.old bytes told h in
+    let t = known (λ i. IsTooLong text.IsScriptText (lines_room most_lines i) i) input.old bytes told h in
     record {
-      done = λ short. absurd (one_answer.text_or_long bytes short t);
-      bad_line = λ k bad long. absurd (long t);
+      done = λ short. absurd (short_or_long bytes short t);
+      bad_line = λ k bad. absurd (only.bad_or_long bytes k bad t);
       too_long = λ long. refl;
     }
 
 -- what is answered where no script was read
-pub refused_answers : (input out notes : Change) (fault : ScriptFault) (status : Status) → Refuses input fault → IsStill out → SaysFault fault notes status → RunAnswers input out notes status
-refused_answers input out notes (script.BadLine k) status why still said = subst (λ (s : Status). RunAnswers input out notes s) (sym said.0) (k, why, still, said.1)
-refused_answers input out notes script.TooLong status why still said = subst (λ (s : Status). RunAnswers input out notes s) (sym said.0) (why, still, said.1)
-refused_answers input out notes script.Read status why still said = subst (λ (s : Status). RunAnswers input out notes s) (sym said.0) (why, still, said.1)
-refused_answers input out notes script.Memory status why still said = subst (λ (s : Status). RunAnswers input out notes s) (sym said.0) (still, said.1)
+pub refused_answers : (input out notes : Change) (f : TextFault) (status : Status) → Refuses input f → IsStill out → SaysFault f notes status → RunAnswers input out notes status
+refused_answers input out notes (fault.BadLine k) status why still said = subst (λ (s : Status). RunAnswers input out notes s) (sym said.0) (k, why, still, said.1)
+refused_answers input out notes fault.TooLong status why still said = subst (λ (s : Status). RunAnswers input out notes s) (sym said.0) (why, still, said.1)
+refused_answers input out notes fault.Read status why still said = subst (λ (s : Status). RunAnswers input out notes s) (sym said.0) (why, still, said.1)
+refused_answers input out notes fault.Memory status why still said = subst (λ (s : Status). RunAnswers input out notes s) (sym said.0) (still, said.1)
 
-pub refused_decides : (input notes : Change) (fault : ScriptFault) (status : Status) → Refuses input fault → SaysFault fault notes status → Decides input status
-refused_decides input notes (script.BadLine k) status why said = subst (Decides input) (sym said.0) (bad_line_decides input k why)
-refused_decides input notes script.TooLong status why said = subst (Decides input) (sym said.0) (too_long_decides input why)
-refused_decides input notes script.Read status why said = λ bytes told read some. absurd (read said.0)
-refused_decides input notes script.Memory status why said = λ bytes told read some. absurd (some said.0)
+pub refused_decides : (input notes : Change) (f : TextFault) (status : Status) → Refuses input f → SaysFault f notes status → Decides input status
+refused_decides input notes (fault.BadLine k) status why said = subst (Decides input) (sym said.0) (bad_line_decides input k why)
+refused_decides input notes fault.TooLong status why said = subst (Decides input) (sym said.0) (too_long_decides input why)
+refused_decides input notes fault.Read status why said = λ bytes told read some. absurd (read said.0)
+refused_decides input notes fault.Memory status why said = λ bytes told read some. absurd (some said.0)

@@ -6,10 +6,11 @@ use Rattle.larch_actions.specs.declared.event.Event.{Event}
 use Rattle.larch_actions.specs.Actions.{by_thread}
 use Rattle.trace_core.specs.Text.{MutexValue}
 use Rattle.script_text.specs.declared.line.Line.{Line}
-use Rattle.script_text.specs.declared.script.ScriptFault.{ScriptFault}
-use Rattle.script_text.specs.declared.script.ScriptFault.TheVariants as script
+use Rattle.exact_text.specs.declared.fault.TextFault.{TextFault}
+use Rattle.exact_text.specs.declared.fault.TextFault.TheVariants as fault
+use Rattle.exact_text.specs.Exact.{HasReason, OrMemory, IsShown, IsTooLong, lines_room}
 use Rattle.script_text.specs.Layouts.{head_lines}
-use Rattle.script_text.specs.Faults.{HasReason, IsBadLine, IsTooLong, IsShortText}
+use Rattle.script_text.specs.Texts.{most_lines, IsShortText}
 use Rattle.script_text.specs.Runs.{AreEventsOf, total}
 use Rattle.script_text.specs.Text as text
 use Rattle.command_endings.specs.declared.status.Status.{Status}
@@ -36,21 +37,14 @@ pub record IsRunOf (input : Change) (bytes : List ℕ) : Type 0 where
   pub layout : Layout
   pub lines : List Line
   pub rules : text.IsScript layout lines
-  pub few : head_lines layout.version + length lines ≤ 100000
+  pub few : head_lines layout.version + length lines ≤ most_lines
   pub whole : IfSome input.old (λ given. text.ReadsAs given layout lines)
   pub end : IsAtEnd input.new
   pub trace : IsTraceOf layout lines bytes
 
 -- why the script isn't read
-abbrev pub Refuses : Change → ScriptFault → Type 0
-Refuses input fault = HasReason input.old input.new input.before input.now fault
-
--- the status and the message of each reason
-abbrev pub SaysFault : ScriptFault → Change → Status → Type 0
-SaysFault (script.BadLine k) notes status = (status ≡ BadText) × Notes notes (bad_line_message k)
-SaysFault script.TooLong notes status = (status ≡ TooLong) × Notes notes too_long_message
-SaysFault script.Read notes status = (status ≡ ReadFault) × Notes notes input_fault_message
-SaysFault script.Memory notes status = (status ≡ Memory) × Notes notes memory_message
+abbrev pub Refuses : Change → TextFault → Type 0
+Refuses input f = OrMemory (HasReason text.IsScriptText (lines_room most_lines) 0 input.old input.new input.before input.now) f
 
 -- the run of a script ended and its trace was printed, or memory ran out
 abbrev pub Runs : Layout → List Line → Change → Change → Status → Type 0
@@ -62,9 +56,9 @@ Runs l xs out notes answer =
 abbrev pub RunAnswers : Change → Change → Change → Status → Type 0
 RunAnswers input out notes Done = (bytes : List ℕ) × IsRunOf input bytes × Gets out bytes × IsStill notes
 RunAnswers input out notes SinkFault = (bytes : List ℕ) × IsRunOf input bytes × GetsPrefix out bytes × Notes notes output_fault_message
-RunAnswers input out notes BadText = (k : ℕ) × Refuses input (script.BadLine k) × IsStill out × Notes notes (bad_line_message k)
-RunAnswers input out notes TooLong = Refuses input script.TooLong × IsStill out × Notes notes too_long_message
-RunAnswers input out notes ReadFault = Refuses input script.Read × IsStill out × Notes notes input_fault_message
+RunAnswers input out notes BadText = (k : ℕ) × Refuses input (fault.BadLine k) × IsStill out × Notes notes (bad_line_message k)
+RunAnswers input out notes TooLong = Refuses input fault.TooLong × IsStill out × Notes notes too_long_message
+RunAnswers input out notes ReadFault = Refuses input fault.Read × IsStill out × Notes notes input_fault_message
 RunAnswers input out notes Memory = IsStill out × Notes notes memory_message
 RunAnswers input out notes Usage = ⊥
 RunAnswers input out notes Stopped = ⊥
@@ -75,8 +69,8 @@ RunAnswers input out notes TooMany = ⊥
 -- and a bad line or an input that is too long is reported
 pub record IsExact (bytes : List ℕ) (status : Status) : Type 0 where
   pub done : IsShortText bytes → (status ≡ Done) ⊎ (status ≡ SinkFault)
-  pub bad_line : (k : ℕ) → IsBadLine bytes k → (IsTooLong bytes → ⊥) → status ≡ BadText
-  pub too_long : IsTooLong bytes → status ≡ TooLong
+  pub bad_line : (k : ℕ) → IsShown text.IsScriptText (lines_room most_lines bytes) bytes k → status ≡ BadText
+  pub too_long : IsTooLong text.IsScriptText (lines_room most_lines bytes) bytes → status ≡ TooLong
 
 -- if the bytes of the input are known they decide, unless a read or the sink failed or memory ran
 -- out
