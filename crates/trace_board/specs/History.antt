@@ -23,12 +23,6 @@ changed (Begins k) o f = put f k (Some o)
 changed (Ends k) o f = put f k None
 changed Stays o f = f
 
--- what is taken where the other isn't
-abbrev pub turned_about : Effect → Effect
-turned_about (Begins k) = Ends k
-turned_about (Ends k) = Begins k
-turned_about Stays = Stays
-
 -- what begins to live, and what has ended from then on
 abbrev pub begun_by : Effect → Effect
 begun_by (Begins k) = Begins k

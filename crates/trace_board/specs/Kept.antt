@@ -18,7 +18,7 @@ use Rattle.trace_board.specs.declared.board.Waker.{Waker}
 use Rattle.trace_board.specs.declared.board.Waker.TheVariants as waker
 use Rattle.trace_board.specs.declared.board.Waker.TheVariants.{Condition, Semaphore, Alarm, Nobody}
 use Rattle.trace_board.specs.Marks.{marks}
-use Rattle.trace_board.specs.History.{changed, turned_about, begun_by, ended_by, origin_of, entry_of, IsWithin}
+use Rattle.trace_board.specs.History.{changed, begun_by, ended_by, origin_of, entry_of, IsWithin}
 use Rattle.trace_board.specs.Causes.{moved, cause_of, IsSmall}
 use Rattle.trace_board.specs.Rows.{empty_row, turned, turned_by_semaphore, row_of}
 use Rattle.trace_board.specs.Holds.{hold_to, longer, lengthened, longest_of}
@@ -36,7 +36,7 @@ pub record Kept : Type 0 where
   pub alerts : ℕ → Cause
   -- which bar has each lane of each thread's row
   pub rows : ℕ → Row
-  -- which event gave each mutex back, where it isn't held
+  -- which event gave each mutex back last
   pub given : ℕ → Option Origin
   -- since which event each semaphore is taken
   pub taken : ℕ → Option Origin
@@ -74,7 +74,7 @@ kept_after n e k = record {
   opens = moved (marks e).avail (origin_of n e) k.opens;
   alerts = moved (marks e).alert (origin_of n e) k.alerts;
   rows = turned_by_semaphore (marks e).semaphore e.thread.0 k.taken (turned (marks e).mutex e.thread.0 k.rows);
-  given = changed (turned_about (marks e).mutex) (origin_of n e) k.given;
+  given = changed (ended_by (marks e).mutex) (origin_of n e) k.given;
   taken = changed (marks e).semaphore (origin_of n e) k.taken;
   longest = lengthened (marks e).mutex n k.held k.longest;
   latest = changed (Begins e.thread.0) (origin_of n e) k.latest;

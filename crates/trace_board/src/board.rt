@@ -5,14 +5,14 @@ ghost use Rattle.larch_actions.specs.Layout.{most_threads};
 ghost use Rattle.trace_board.specs.Kept.{nothing_kept, kept_after, kept_of, came, let_on_by, is_from, has_run, was_held, forked_by, life_by, life_in, IsNoted, IsNear};
 
 use crate::causes::{Cause, Causes};
-use crate::history::{Effect, Lives, Origin, Table, turned_about};
+use crate::history::{Effect, Lives, Origin, Table, ended_by};
 use crate::holds::Longest;
 use crate::marks::marks_of;
 use crate::rows::Rows;
 use larch_actions::{Event, Life, Version};
 
 /// Since which event each mutex is held, each semaphore is taken and each thread waits, which event lets each thread go on, which lane each bar has,
-/// which event gave each mutex back, for how long each mutex was held at the longest, which is the latest event of each thread, and which forked and
+/// which event last gave each mutex back, for how long each mutex was held at the longest, which is the latest event of each thread, and which forked and
 /// which ended it.
 #[derive(Drop)]
 pub struct Board {
@@ -191,7 +191,7 @@ impl Board {
         self.stands.note(marks.stand, by);
         self.opens.note(marks.avail, by);
         self.alerts.note(marks.alert, by);
-        self.given.note(turned_about(marks.mutex), by);
+        self.given.note(ended_by(marks.mutex), by);
         self.taken.note(marks.semaphore, by);
         self.latest.note(Effect::Begins(e.thread.0), by);
         self.lives.note(marks.life, by);

@@ -2,7 +2,7 @@
 ghost use Rattle.std.specs.Prelude.{◌≡◌, ◌<◌, ℕ, None};
 ghost use Rattle.larch_actions.specs.Layout.{most_threads};
 ghost use Rattle.std.specs.declared.option.Option.{Option};
-ghost use Rattle.trace_board.specs.History.{changed, turned_about, begun_by, ended_by, entry_of, IsWithin};
+ghost use Rattle.trace_board.specs.History.{changed, begun_by, ended_by, entry_of, IsWithin};
 
 use larch_actions::ThreadId;
 
@@ -22,13 +22,13 @@ pub enum Effect {
     Stays,
 }
 
-/// The effect on what is taken where the other isn't.
+/// What has ended from the effect on.
 #[inline(always)]
-pub fn turned_about(effect: Effect) -> Effect
-    ensures { result ≡ turned_about effect }
+pub fn ended_by(effect: Effect) -> Effect
+    ensures { result ≡ ended_by effect }
 {
     match effect {
-        Effect::Begins(k) => Effect::Ends(k),
+        Effect::Begins(_) => Effect::Stays,
         Effect::Ends(k) => Effect::Begins(k),
         Effect::Stays => Effect::Stays,
     }

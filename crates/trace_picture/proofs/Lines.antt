@@ -9,8 +9,9 @@ use Rattle.trace_board.specs.declared.holds.Hold.{Hold}
 use Rattle.trace_board.specs.Kept.{Kept, kept_since, longest_in}
 use Rattle.trace_shapes.specs.declared.view.View.{View}
 use Rattle.trace_shapes.specs.Places.{height_of}
-use Rattle.trace_shapes.specs.Shapes.{with_number, each_below}
-use Rattle.trace_picture.specs.Longest.{hold_end, hold_text, told_hold, line_place, hold_line, holds_text, holds_height}
+use Rattle.trace_shapes.specs.declared.geometry.TheConstants.{NAME_LINE}
+use Rattle.trace_shapes.specs.Shapes.{with_number, each_below, place_text}
+use Rattle.trace_picture.specs.Longest.{hold_end, hold_text, told_hold, line_x, line_y, sample_text, hold_line, holds_text, holds_height}
 use Rattle.trace_picture.specs.Overview.{over_height, over_style}
 use Rattle.trace_picture.specs.Picture.{part_text, end_text}
 use Rattle.trace_picture.specs.Seen.{HasText, HoldsAreTold}
@@ -45,22 +46,28 @@ module _ (l : Layout) (v : View) (k : Kept) (n : ℕ) (note : List ℕ) (m : ℕ
   unfolding end_text
   lines_there = record {
     before = with_number (codes "<text x='44' y='") (low + 14) ++ (codes "'>" ++ note) ++ part_text v n ++ codes "</text>\n";
-    after = with_number (codes "</g>\n<style>:root{height:") (low + 24 + holds_height l.mutexes + over_height l v n) ++ over_style l v n;
+    after = with_number (codes "</g>\n<style>:root{height:") (low + 28 + holds_height l.mutexes + over_height l v n) ++ over_style l v n;
     text = refl;
   }
 
-  line_there : (h : Option Hold) → longest_in k n m ≡ h → HasText (end_text l v k n note) (with_number (codes "'>m") m ++ told_hold h)
+  abbrev name : List ℕ
+  name = with_number (codes "'><title>m") m ++ codes "</title>"
+
+  abbrev before_name : List ℕ
+  before_name = sample_text low m ++ (codes "<text class='t" ++ place_text (line_x m + 40) (line_y low m + NAME_LINE))
+
+  line_there : (h : Option Hold) → longest_in k n m ≡ h → HasText (end_text l v k n note) (name ++ told_hold h)
   unfolding hold_line
   line_there h is =
-      has_in (end_text l v k n note) (hold_line low m (longest_in k n m)) (with_number (codes "'>m") m ++ told_hold h)
+      has_in (end_text l v k n note) (hold_line low m (longest_in k n m)) (name ++ told_hold h)
       (has_in (end_text l v k n note) (holds_text l.mutexes k n low) (hold_line low m (longest_in k n m)) lines_there (each_has (λ i. hold_line low i (longest_in k n i)) l.mutexes m lt))
-      (record { before = line_place low m; after = codes "</text>\n"; text = ap (λ x. line_place low m ++ with_number (codes "'>m") m ++ told_hold x ++ codes "</text>\n") is ∙ regroup (line_place low m) (with_number (codes "'>m") m) (told_hold h) (codes "</text>\n") })
+      (record { before = before_name; after = codes "</text>\n"; text = ap (λ x. before_name ++ name ++ told_hold x ++ codes "</text>\n") is ∙ regroup before_name name (told_hold h) (codes "</text>\n") })
     where
       regroup : (a b c d : List ℕ) → a ++ b ++ c ++ d ≡ a ++ (b ++ c) ++ d
       regroup a b c d = simp append_assoc
 
   told : (h : Option Hold) → longest_in k n m ≡ h
-      → MatchOption h (HasText (end_text l v k n note) (with_number (codes "'>m") m ++ codes " never held")) (λ h. HasText (end_text l v k n note) (with_number (codes "'>m") m ++ hold_text h))
+      → MatchOption h (HasText (end_text l v k n note) (name ++ codes "never held")) (λ h. HasText (end_text l v k n note) (name ++ hold_text h))
   told None is = line_there None is
   told (Some h) is = line_there (Some h) is
 

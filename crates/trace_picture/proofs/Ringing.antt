@@ -22,8 +22,9 @@ use Rattle.trace_shapes.specs.declared.view.View.{View}
 use Rattle.trace_board.specs.Kept.{Kept, nothing_kept, kept_after}
 use Rattle.trace_picture.specs.Picture.{head_text}
 use Rattle.trace_picture.specs.Bands.{step_text}
+use Rattle.trace_shapes.specs.Places.{band_of, event_x}
 use Rattle.trace_shapes.specs.Shapes.{with_number}
-use Rattle.trace_picture.specs.Rings.{ring_x, ring_y, ring_text}
+use Rattle.trace_picture.specs.Rings.{ring_y, ring_text}
 use Rattle.trace_shapes.proofs.Added.{added_five}
 use Rattle.trace_picture.proofs.Drawing.{IsDrawing, drawing_starts, drawing_room, drawing_steps}
 
@@ -85,10 +86,10 @@ texts_more f ns k n lt is =
     ∙ ap (λ x. flat_map f (take k ns ++ x ∷ [])) is ∙ ap (flat_map f) (sym (take_more ns k n lt))
 
 -- the pieces of a ring
-pub added_ring : (l : Layout) (v : View) (n : Nested) (x y m k : ℕ) (old a b c d e : List ℕ) → x ≡ ring_x v n → y ≡ ring_y l v n → m ≡ n.outer.0 → k ≡ n.inner.0
-    → a ≡ old ++ with_number (codes "<circle class='c' r='8' cx='") x → b ≡ a ++ with_number (codes ".5' cy='") y → c ≡ b ++ with_number (codes ".5' fill='none' stroke='#c00' stroke-width='2'><title>m") m
-    → d ≡ c ++ with_number (codes " then m") k → e ≡ d ++ codes "</title></circle>\n" → e ≡ old ++ ring_text l v n
+pub added_ring : (l : Layout) (v : View) (n : Nested) (x y m k : ℕ) (old a b c d e : List ℕ) → x ≡ event_x (band_of l v n.place) n.place → y ≡ ring_y l v n → m ≡ n.outer.0 → k ≡ n.inner.0
+    → a ≡ old ++ with_number (codes "<rect class='c' width='22' height='15' rx='3' x='") x → b ≡ a ++ with_number (codes "' y='") y → c ≡ b ++ with_number (codes "'><title>m") m
+    → d ≡ c ++ with_number (codes " then m") k → e ≡ d ++ codes "</title></rect>\n" → e ≡ old ++ ring_text l v n
 unfolding ring_text
 added_ring l v n x y m k old a b c d e ex ey em ek one two three four five =
     added_five old a b c _ _ _ _ _ one two three d e four five
-    ∙ (λ i. old ++ (with_number (codes "<circle class='c' r='8' cx='") (ex i) ++ with_number (codes ".5' cy='") (ey i) ++ with_number (codes ".5' fill='none' stroke='#c00' stroke-width='2'><title>m") (em i) ++ with_number (codes " then m") (ek i) ++ codes "</title></circle>\n"))
+    ∙ (λ i. old ++ (with_number (codes "<rect class='c' width='22' height='15' rx='3' x='") (ex i) ++ with_number (codes "' y='") (ey i) ++ with_number (codes "'><title>m") (em i) ++ with_number (codes " then m") (ek i) ++ codes "</title></rect>\n"))

@@ -1,10 +1,9 @@
 -- What is drawn: marks, bars and lanes.
-use Rattle.std.proofs.Common.{◌≡◌, ℕ, suc, ◌+◌, ◌-◌, ◌*◌, ◌%◌, ◌<◌, ◌≤◌, ◌⊎◌, inl, inr, Bool, true, false, cond, eqb, List, [], ◌∷◌, ◌++◌, length, length-append, refl, ap, sym, subst, ◌∙◌, append_assoc, Some, None, MatchOption, arith}
-use Rattle.std.specs.Prelude.{codes, min, max}
+use Rattle.std.proofs.Common.{◌≡◌, ℕ, suc, ◌+◌, ◌-◌, ◌*◌, ◌%◌, ◌<◌, ◌≤◌, Bool, true, false, cond, eqb, List, [], ◌∷◌, ◌++◌, length, length-append, refl, ap, sym, subst, ◌∙◌, append_assoc, Some, None, MatchOption, arith}
+use Rattle.std.specs.Prelude.{codes}
 use Rattle.std.specs.declared.option.Option.{Option}
 use mathlib.Core.Option.{none, some, Option as Optional}
-use Rattle.std.proofs.lemmas.Bool.{cases_lt, cond-true, true≢false}
-use Rattle.std.proofs.lemmas.Bool.Decides.{nat_tests}
+use Rattle.std.proofs.lemmas.Bool.{cond-true, true≢false}
 use Rattle.larch_actions.specs.declared.event.Layout.{Layout}
 use Rattle.larch_actions.specs.declared.event.Event.{Event}
 use Rattle.larch_actions.specs.declared.event.Action.{Action}
@@ -19,12 +18,15 @@ use Rattle.trace_shapes.specs.Looks.{look_of}
 use Rattle.trace_board.specs.Marks.{marks, marks_of}
 use Rattle.trace_board.specs.Rows.{lane_in}
 use Rattle.trace_board.specs.Kept.{Kept, kept_since, kept_after, behind}
-use Rattle.trace_shapes.specs.Places.{in_view, gap_before, bar_x, bar_width}
-use Rattle.trace_shapes.specs.Shapes.{place_text, box_text, bar_box, bar_text, taken_text, span_text, line_of, number_text, mark_text, object_if, with_number}
+use Rattle.trace_shapes.specs.declared.view.Band.{Band}
+use Rattle.trace_shapes.specs.declared.view.Strip.{Strip}
+use Rattle.trace_shapes.specs.declared.geometry.TheConstants.{LEFT, COLUMN, MARK_TOP, LANE_TOP, LANE, BAR_GAP}
+use Rattle.trace_shapes.specs.Places.{in_view, band_of, bar_x, bar_width}
+use Rattle.trace_shapes.specs.Shapes.{place_text, box_text, bar_box, bar_name, bar_text, taken_text, span_text, given_text, line_of, number_text, mark_text, object_if, with_number}
 use Rattle.trace_picture.specs.Lives.{life_row}
-use Rattle.trace_picture.specs.Bands.{band_start, opening, closing_after, bar_if, taken_if, bar_ended, taken_ended, wait_ended, bars_ended, arrow_to, event_shapes, step_text}
+use Rattle.trace_picture.specs.Bands.{opening, closing_after, up_to, strip_of, taken_strip, bar_if, taken_if, bar_ended, taken_ended, wait_ended, bars_ended, arrow_to, event_shapes, step_text}
 use Rattle.trace_board.specs.Laws.{IsSince}
-use Rattle.trace_picture.specs.Seen.{kind_of, MarksDiffer, HasText, EventsAreMarked, BarsAreDrawn, TakingsAreDrawn}
+use Rattle.trace_picture.specs.Seen.{kind_of, MarksDiffer, HasText, upper_of, EventsAreMarked, BarsAreDrawn, TakingsAreDrawn}
 use Rattle.trace_board.proofs.Behind.{length-behind}
 use Rattle.trace_board.proofs.Holding as holding
 
@@ -85,77 +87,83 @@ marked_there : (op num life part rest end object bars arrow cl : List ℕ)
     → op ++ (num ++ life ++ (part ++ rest ++ end) ++ object ++ bars ++ arrow) ++ cl ≡ (op ++ num ++ life) ++ part ++ (rest ++ (end ++ (object ++ (bars ++ (arrow ++ cl)))))
 marked_there op num life part rest end object bars arrow cl = simp append_assoc
 
-barred_there : (op num life mark object name box height held span more arrow cl : List ℕ)
-    → op ++ (num ++ life ++ mark ++ object ++ ((name ++ box ++ height ++ held ++ span) ++ more) ++ arrow) ++ cl
-    ≡ (op ++ num ++ life ++ mark ++ object) ++ (name ++ box) ++ (height ++ (held ++ (span ++ (more ++ (arrow ++ cl)))))
-barred_there op num life mark object name box height held span more arrow cl = simp append_assoc
+barred_there : (op num life mark object name box height span given end more arrow cl : List ℕ)
+    → op ++ (num ++ life ++ mark ++ object ++ ((name ++ box ++ height ++ span ++ given ++ end) ++ more) ++ arrow) ++ cl
+    ≡ (op ++ num ++ life ++ mark ++ object) ++ (name ++ box) ++ (height ++ (span ++ (given ++ (end ++ (more ++ (arrow ++ cl))))))
+barred_there op num life mark object name box height span given end more arrow cl = simp append_assoc
 
-taken_there : (op num life mark object bars name box height by span wait arrow cl : List ℕ)
-    → op ++ (num ++ life ++ mark ++ object ++ (bars ++ (name ++ box ++ height ++ by ++ span) ++ wait) ++ arrow) ++ cl
-    ≡ (op ++ num ++ life ++ mark ++ object ++ bars) ++ (name ++ box) ++ (height ++ (by ++ (span ++ (wait ++ (arrow ++ cl)))))
-taken_there op num life mark object bars name box height by span wait arrow cl = simp append_assoc
+taken_there : (op num life mark object bars name box height span end wait arrow cl : List ℕ)
+    → op ++ (num ++ life ++ mark ++ object ++ (bars ++ (name ++ box ++ height ++ span ++ end) ++ wait) ++ arrow) ++ cl
+    ≡ (op ++ num ++ life ++ mark ++ object ++ bars) ++ (name ++ box) ++ (height ++ (span ++ (end ++ (wait ++ (arrow ++ cl)))))
+taken_there op num life mark object bars name box height span end wait arrow cl = simp append_assoc
 
 pub events_are_marked : EventsAreMarked
 unfolding step_text event_shapes mark_text
 events_are_marked = λ l v k n e seen.
-    let part = (codes "<use href='#" ++ (look_of (marks e).mark).letter ∷ []) ++ place_text (44 + 12 * ((n - v.first) % 100)) (18 + 34 * e.thread.0) in
+    let b = band_of l v n in
+    let column : n - b.start ≡ (n - v.first) % 50 = omega arith in
+    let tag = codes "<use href='#" ++ (look_of (marks e).mark).letter ∷ [] in
+    let place : ℕ → List ℕ = λ c. place_text (LEFT + COLUMN * c) (upper_of l e.thread.0 + MARK_TOP) in
     let rest = codes "'><title>" ++ line_of n e in
     let end = codes "</title></use>\n" in
-    let life = life_row v n (marks e).life in
-    let object = object_if v n e (marks e).wait in
-    let bars = bars_ended v k n e in
-    let arrow = arrow_to v k n e in
+    let life = life_row b n (marks e).life in
+    let object = object_if b n e in
+    let bars = bars_ended (up_to b n) k (marks e) in
+    let arrow = arrow_to b k n e in
     let cl = closing_after l v (kept_after n e k) n in
     record {
-      before = opening l v k n ++ number_text v n ++ life;
+      before = opening l v k n ++ number_text b n ++ life;
       after = rest ++ (end ++ (object ++ (bars ++ (arrow ++ cl))));
-      text = cond-true (in_view v n) (opening l v k n ++ event_shapes v k n e ++ cl) [] seen ∙ marked_there (opening l v k n) (number_text v n) life part rest end object bars arrow cl;
+      text =
+          cond-true (in_view v n) (opening l v k n ++ event_shapes b k n e ++ cl) [] seen ∙ marked_there (opening l v k n) (number_text b n) life (tag ++ place (n - b.start)) rest end object bars arrow cl
+          ∙ ap (λ c. (opening l v k n ++ number_text b n ++ life) ++ (tag ++ place c) ++ (rest ++ (end ++ (object ++ (bars ++ (arrow ++ cl)))))) column;
     }
 
 -- the bar that the event ends is in what it adds
 module _ (l : Layout) (v : View) (k : Kept) (n : ℕ) (e : Event) (seen : in_view v n ≡ true) (m : ℕ) (o : Origin) where
-  abbrev start : ℕ
-  start = band_start v n
+  abbrev b : Band
+  b = band_of l v n
 
   abbrev box_at : ℕ → List ℕ
-  box_at lane = box_text (bar_x start o (n + 1)) (37 + 34 * o.thread.0 + 3 * lane) (bar_width start o true (n + 1))
+  box_at lane = box_text (bar_x (up_to b n) o) (upper_of l o.thread.0 + LANE_TOP + LANE * lane) (bar_width (up_to b n) o)
 
-  box_is : (lane : ℕ) → bar_box start lane o true (n + 1) ≡ box_at lane
+  box_is : (s : Strip) → s.since ≡ o → bar_box (up_to b n) s ≡ box_at s.lane
   unfolding bar_box
-  box_is lane = ap (λ y. box_text (bar_x start o (n + 1)) y (bar_width start o true (n + 1))) (omega arith)
+  box_is s is = ap (λ (p : Origin). box_text (bar_x (up_to b n) p) (upper_of l p.thread.0 + LANE_TOP + LANE * s.lane) (bar_width (up_to b n) p)) is
 
   abbrev taken : List ℕ
-  taken = taken_ended start n k.rows k.taken (marks e).semaphore
+  taken = taken_ended (up_to b n) k (marks e).semaphore
 
   abbrev wait : List ℕ
-  wait = wait_ended start n k.waits (marks e).wait
+  wait = wait_ended (up_to b n) k (marks e).wait
 
   -- of a mutex
   bar_there : (marks e).mutex ≡ Ends m → k.held m ≡ Some o → HasText (step_text l v k n e) (with_number (codes "<rect class='m") m ++ box_at (lane_in (k.rows o.thread.0) (Mutex m)))
   unfolding step_text event_shapes bar_text
   bar_there effect held =
       let op = opening l v k n in
-      let num = number_text v n in
-      let life = life_row v n (marks e).life in
-      let mark = mark_text v n e in
-      let object = object_if v n e (marks e).wait in
-      let arrow = arrow_to v k n e in
+      let num = number_text b n in
+      let life = life_row b n (marks e).life in
+      let mark = mark_text b n e in
+      let object = object_if b n e in
+      let arrow = arrow_to b k n e in
       let cl = closing_after l v (kept_after n e k) n in
+      let strip = strip_of k m o in
       let name = with_number (codes "<rect class='m") m in
-      let height = with_number (codes "' height='3'><title>m") m in
-      let by = codes " held by" in
-      let span = span_text o true (n + 1) in
-      let lane = lane_in (k.rows o.thread.0) (Mutex m) in
-      let is : bar_ended start n k.rows k.held (marks e).mutex ≡ name ++ box_at lane ++ height ++ by ++ span =
-      ap (λ t. bar_ended start n k.rows k.held t) effect ∙ ap (λ h. bar_if start true (n + 1) k.rows m h) held ∙ ap (λ z. name ++ z ++ height ++ by ++ span) (box_is lane)
+      let height = with_number (codes "' height='12' rx='2'><title>m") m in
+      let span = span_text (codes " held by t") (up_to b n) o in
+      let given = given_text o.thread.0 (k.given m) in
+      let end = bar_name (codes "'>m") (up_to b n) strip in
+      let is : bar_ended (up_to b n) k (marks e).mutex ≡ name ++ box_at strip.lane ++ height ++ span ++ given ++ end =
+      ap (λ t. bar_ended (up_to b n) k t) effect ∙ ap (λ h. bar_if (up_to b n) k m h) held ∙ ap (λ z. name ++ z ++ height ++ span ++ given ++ end) (box_is strip refl)
       in
       record {
         before = op ++ num ++ life ++ mark ++ object;
-        after = height ++ (by ++ (span ++ ((taken ++ wait) ++ (arrow ++ cl))));
+        after = height ++ (span ++ (given ++ (end ++ ((taken ++ wait) ++ (arrow ++ cl)))));
         text =
-            cond-true (in_view v n) (op ++ event_shapes v k n e ++ cl) [] seen
-            ∙ ap (λ b. op ++ (num ++ life ++ mark ++ object ++ b ++ arrow) ++ cl) (append_assoc (bar_ended start n k.rows k.held (marks e).mutex) taken wait ∙ ap (λ b. b ++ (taken ++ wait)) is)
-            ∙ barred_there op num life mark object name (box_at lane) height by span (taken ++ wait) arrow cl;
+            cond-true (in_view v n) (op ++ event_shapes b k n e ++ cl) [] seen
+            ∙ ap (λ b. op ++ (num ++ life ++ mark ++ object ++ b ++ arrow) ++ cl) (append_assoc (bar_ended (up_to b n) k (marks e).mutex) taken wait ∙ ap (λ b. b ++ (taken ++ wait)) is)
+            ∙ barred_there op num life mark object name (box_at strip.lane) height span given end (taken ++ wait) arrow cl;
       }
 
   -- of a semaphore
@@ -163,28 +171,28 @@ module _ (l : Layout) (v : View) (k : Kept) (n : ℕ) (e : Event) (seen : in_vie
   unfolding step_text event_shapes taken_text
   taking_there effect since =
       let op = opening l v k n in
-      let num = number_text v n in
-      let life = life_row v n (marks e).life in
-      let mark = mark_text v n e in
-      let object = object_if v n e (marks e).wait in
-      let bars = bar_ended start n k.rows k.held (marks e).mutex in
-      let arrow = arrow_to v k n e in
+      let num = number_text b n in
+      let life = life_row b n (marks e).life in
+      let mark = mark_text b n e in
+      let object = object_if b n e in
+      let bars = bar_ended (up_to b n) k (marks e).mutex in
+      let arrow = arrow_to b k n e in
       let cl = closing_after l v (kept_after n e k) n in
+      let strip = taken_strip k m o in
       let name = codes "<rect class='e" in
-      let height = with_number (codes "' height='3'><title>s") m in
-      let by = codes " taken by" in
-      let span = span_text o true (n + 1) in
-      let lane = lane_in (k.rows o.thread.0) (Semaphore m) in
-      let is : taken ≡ name ++ box_at lane ++ height ++ by ++ span =
-      ap (λ t. taken_ended start n k.rows k.taken t) effect ∙ ap (λ h. taken_if start true (n + 1) k.rows m h) since ∙ ap (λ z. name ++ z ++ height ++ by ++ span) (box_is lane)
+      let height = with_number (codes "' height='12' rx='2'><title>s") m in
+      let span = span_text (codes " taken by t") (up_to b n) o in
+      let end = bar_name (codes "'>s") (up_to b n) strip in
+      let is : taken ≡ name ++ box_at strip.lane ++ height ++ span ++ end =
+      ap (λ t. taken_ended (up_to b n) k t) effect ∙ ap (λ h. taken_if (up_to b n) k m h) since ∙ ap (λ z. name ++ z ++ height ++ span ++ end) (box_is strip refl)
       in
       record {
         before = op ++ num ++ life ++ mark ++ object ++ bars;
-        after = height ++ (by ++ (span ++ (wait ++ (arrow ++ cl))));
+        after = height ++ (span ++ (end ++ (wait ++ (arrow ++ cl))));
         text =
-            cond-true (in_view v n) (op ++ event_shapes v k n e ++ cl) [] seen
+            cond-true (in_view v n) (op ++ event_shapes b k n e ++ cl) [] seen
             ∙ ap (λ b. op ++ (num ++ life ++ mark ++ object ++ (bars ++ b ++ wait) ++ arrow) ++ cl) is
-            ∙ taken_there op num life mark object bars name (box_at lane) height by span wait arrow cl;
+            ∙ taken_there op num life mark object bars name (box_at strip.lane) height span end wait arrow cl;
       }
 
 gives_own : (t : ℕ) (a : Action) (s : Spec) (m : ℕ) → (marks_of t a).mutex ≡ Ends m → MeetsRequires t s a → s.holder m ≡ some t
@@ -225,31 +233,14 @@ held_since m t past (Some o) h is held = (o, refl, same o.thread.0 t (sym held.0
     same i j u = cc
 
 -- places of a bar
-gap : (s : ℕ) (o : Origin) → s ≤ o.place → gap_before s o ≡ 2
-gap s o le = grind (arith, nat_tests)
+left_here : (b : Band) (n : ℕ) (o : Origin) → o.place ≤ n → b.start ≤ o.place → bar_x (up_to b n) o ≡ LEFT + COLUMN * (o.place - b.start)
+left_here b n o le from = omega arith
 
-no_gap : (s : ℕ) (o : Origin) → o.place < s → gap_before s o ≡ 0
-no_gap s o lt = grind (arith, nat_tests)
+left_before : (b : Band) (n : ℕ) (o : Origin) → b.start ≤ n → o.place < b.start → bar_x (up_to b n) o ≡ LEFT
+left_before b n o le from = omega arith
 
-left_here : (s n : ℕ) (o : Origin) → o.place ≤ n → s ≤ o.place → bar_x s o (n + 1) ≡ 46 + 12 * (o.place - s)
-left_here s n o le from = omega (arith, gap s o from)
-
-left_before : (s n : ℕ) (o : Origin) → s ≤ n → o.place < s → bar_x s o (n + 1) ≡ 44
-left_before s n o le from = omega (arith, no_gap s o from)
-
-right_from : (s n p g : ℕ) → s ≤ n → p ≤ n → (g ≡ 2) ⊎ (g ≡ 0) → (44 + 12 * (min (max p s) (n + 1) - s) + g) + (12 * (n + 1 - min (max p s) (n + 1)) - (g + 2)) ≡ 54 + 12 * (n - s)
-right_from s n p g first le (inl e) = omega arith
-right_from s n p g first le (inr e) = omega arith
-
-gap_is : (s : ℕ) (o : Origin) → (gap_before s o ≡ 2) ⊎ (gap_before s o ≡ 0)
-gap_is s o = from (cases_lt o.place s)
-  where
-    from : (o.place < s) ⊎ (s ≤ o.place) → (gap_before s o ≡ 2) ⊎ (gap_before s o ≡ 0)
-    from (inl lt) = inr (no_gap s o lt)
-    from (inr le) = inl (gap s o le)
-
-right_edge : (s n : ℕ) (o : Origin) → s ≤ n → o.place ≤ n → bar_x s o (n + 1) + bar_width s o true (n + 1) ≡ 54 + 12 * (n - s)
-right_edge s n o first le = right_from s n o.place (gap_before s o) first le (gap_is s o)
+right_edge : (b : Band) (n : ℕ) (o : Origin) → b.start ≤ n → o.place ≤ n → bar_x (up_to b n) o + bar_width (up_to b n) o ≡ LEFT + COLUMN * (n + 1 - b.start) - BAR_GAP
+right_edge b n o first le = omega arith
 
 -- what a taken semaphore is taken since
 taken_since : (n : ℕ) (past : List Event) (x : Option Origin) (b : Bool) → b ≡ false → MatchOption x (b ≡ true) (λ o. (b ≡ false) × IsSince (Semaphore n) o past) → (o : Origin) × (x ≡ Some o) × IsSince (Semaphore n) o past
@@ -266,19 +257,19 @@ bars_are_drawn = λ l v es s r e may m effect seen.
     let k = kept_since past in
     let n = length es in
     let t = e.thread.0 in
-    let start = band_start v n in
+    let b = band_of l v n in
     let h = held_since m t past (k.held m) (s.holder m) (gives_own t e.action s m effect may.requires_met) (holding.bars_are_holds l.version es s r m) in
     let o = h.0 in
     let near : o.place < n = since_near (Mutex m) o es h.3 in
-    let first : start ≤ n = omega arith in (
+    let first : b.start ≤ n = omega arith in (
       record {
         o = o;
         lane = lane_in (k.rows o.thread.0) (Mutex m);
         since = h.3;
         drawn = bar_there l v k n e seen m o effect h.1;
-        from_taking = λ le. left_here start n o (omega arith) le;
-        from_before = λ lt. left_before start n o first lt;
-        ends = right_edge start n o first (omega arith);
+        from_taking = λ le. left_here b n o (omega arith) le;
+        from_before = λ lt. left_before b n o first lt;
+        ends = right_edge b n o first (omega arith);
       },
       h.2,
     )
@@ -288,17 +279,17 @@ takings_are_drawn = λ l v es s r e m effect shut seen.
     let past = behind [] es in
     let k = kept_since past in
     let n = length es in
-    let start = band_start v n in
+    let b = band_of l v n in
     let h = taken_since m past (k.taken m) (s.avail m) shut (holding.bars_are_takings l.version es s r m) in
     let o = h.0 in
     let near : o.place < n = since_near (Semaphore m) o es h.2 in
-    let first : start ≤ n = omega arith in
+    let first : b.start ≤ n = omega arith in
     record {
       o = o;
       lane = lane_in (k.rows o.thread.0) (Semaphore m);
       since = h.2;
       drawn = taking_there l v k n e seen m o effect h.1;
-      from_taking = λ le. left_here start n o (omega arith) le;
-      from_before = λ lt. left_before start n o first lt;
-      ends = right_edge start n o first (omega arith);
+      from_taking = λ le. left_here b n o (omega arith) le;
+      from_before = λ lt. left_before b n o first lt;
+      ends = right_edge b n o first (omega arith);
     }

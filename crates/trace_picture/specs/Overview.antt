@@ -51,6 +51,6 @@ abbrev pub over_style : Layout → View → ℕ → List ℕ
 over_style l v n =
     if nat_lt 10 (bands v n) then
     with_number (codes "px}.w{transform:translate(0,") (over_height l v n)
-    ++ with_number (codes "px)}.u{display:inline;transform:translate(0,calc(136px - ") (over_height l v n)
+    ++ with_number (codes "px)}.u{display:inline;transform:translate(0,calc(112px - ") (over_height l v n)
     ++ codes "px))}</style>\n</svg>\n"
     else codes "px}</style>\n</svg>\n"

@@ -5,37 +5,44 @@ use Rattle.larch_actions.specs.declared.event.Event.{Event}
 use Rattle.larch_actions.specs.declared.event.Broken.{Broken}
 use Rattle.trace_shapes.specs.declared.view.View.{View}
 use Rattle.trace_board.specs.Kept.{Kept, kept_since, behind}
-use Rattle.trace_shapes.specs.Places.{is_open, height_of}
-use Rattle.trace_shapes.specs.Shapes.{with_number, each_below, line_of, clause_word, painted_text}
+use Rattle.trace_shapes.specs.Places.{is_open, band_of, height_of}
+use Rattle.trace_shapes.specs.Shapes.{with_number, each_below, line_of, clause_word}
 use Rattle.trace_shapes.specs.Legend.{entry_at, life_legend}
 use Rattle.trace_picture.specs.Longest.{holds_text, holds_height}
 use Rattle.trace_picture.specs.Overview.{over_height, over_style}
-use Rattle.trace_picture.specs.Bands.{step_text, failing_text, closing, band_start}
+use Rattle.trace_picture.specs.Bands.{step_text, failing_text, closing}
 
 unfoldable pub style_text : List ℕ
 style_text =
-    codes "<svg xmlns='http://www.w3.org/2000/svg' width='1252' font-family='sans-serif' font-size='11'>\n<title>Firefly Threads timeline</title>\n<style>\n" ++ codes "text{fill:#222}.n{fill:#555;font-size:10px;text-anchor:middle}.s,.d{font-size:7px}.s{text-anchor:middle}.d{paint-order:stroke;stroke:#fff;stroke-width:2px}.r{fill:#f4f4f4}.i{text-anchor:middle;font-weight:bold;font-size:10px}\n" ++ codes ".m0{fill:#e69f00}.m1{fill:#0072b2}.m2{fill:#f0e442}.m3{fill:#009e73}.m4{fill:#cc79a7}.m5{fill:#56b4e9}.m6{fill:#d55e00}\n" ++ codes ".h{fill:url(#h);stroke:#444;stroke-width:.5}.o{fill:#fff;stroke:#222}.k{fill:#ddd;stroke:#222}.g{fill:#ffe08a;stroke:#222}\n"
+    codes "<svg xmlns='http://www.w3.org/2000/svg' width='1252' font-family='Helvetica,Arial,sans-serif' font-size='11'>\n<title>Firefly Threads timeline</title>\n<style>\n" ++ codes "text{fill:#1f2328}.r{fill:#f3f4f6}.z{fill:#fff}.l{stroke:#d8dbe0}.n{fill:#6e7781;font-size:10px;text-anchor:middle}.y,.i{font-weight:bold}.i{text-anchor:middle}.s1,.x,.d{font-size:10px}.s2{font-size:9px;text-anchor:end}.s3{font-size:8px;text-anchor:end}.d{paint-order:stroke;stroke:#fff;stroke-width:3px}\n" ++ codes ".m0{fill:#e69f00}.m1{fill:#0072b2}.m2{fill:#f0e442}.m3{fill:#009e73}.m4{fill:#cc79a7}.m5{fill:#56b4e9}.m6{fill:#d55e00}.m1+.x{fill:#fff}\n" ++ codes ".h{fill:url(#h);stroke:#8c959f;stroke-width:.6}.o{fill:#fff}.k{fill:#d8dee4}.g{fill:#ffd866}.b{fill:#b6dcf5}.v{fill:#ffb8a3}.j{fill:#bfe3c3}.o,.k,.g,.b,.v,.j{stroke:#57606a;stroke-width:.8}\n"
 
 unfoldable pub pattern_text : List ℕ
 pattern_text =
-    codes ".u{display:none}.e{fill:#fff;stroke:#222;stroke-width:.6;stroke-dasharray:3 1}.b{fill:#bfe0f5;stroke:#222}.v{fill:#f5b8a0;stroke:#222}.f{fill:#222}.f+.i{fill:#fff}.o,.k,.g,.b,.v{stroke-width:.7}.a{fill:none;stroke:#a02c6b;stroke-width:1.2;marker-end:url(#a)}.l{fill:none;stroke:#888;stroke-width:.8}\n</style>\n" ++ codes "<defs><pattern id='h' width='5' height='5' patternUnits='userSpaceOnUse' patternTransform='rotate(45)'><rect width='5' height='5' fill='#fff'/><rect width='2' height='5' fill='#777'/></pattern>\n" ++ codes "<path id='q1' d='M3 0h2v8h-2z' fill='#fff'/><path id='q2' d='M3 0h2v8h-2z' fill='#000'/><path id='q3' d='M1 0h1v8h-1zM5 0h1v8h-1z' fill='#fff'/><path id='q4' d='M1 0h1v8h-1zM5 0h1v8h-1z' fill='#000'/><path id='q5' d='M0 0h4v8h-4z' fill='#fff'/><path id='q6' d='M0 0h4v8h-4z' fill='#000'/><g id='q7'><path d='M1 0h2v8h-2z' fill='#fff'/><path d='M5 0h2v8h-2z'/></g><g id='q8'><path d='M1 0h3v8h-3z' fill='#fff'/><path d='M4 0h1v8h-1z'/></g><g id='q9'><path d='M1 0h3v8h-3z'/><path d='M4 0h1v8h-1z' fill='#fff'/></g>\n<marker id='a' viewBox='0 0 6 6' refX='6' refY='3' markerWidth='6' markerHeight='6' orient='auto'><path d='M0 0L6 3L0 6z' fill='#a02c6b'/></marker></defs>\n" ++ codes "<rect width='100%' height='100%' fill='#fff'/>\n"
+    codes ".u{display:none}.e{fill:#fff;stroke:#57606a;stroke-dasharray:3 2}.f{fill:#1f2328}.f+.i{fill:#fff}.a{fill:none;stroke:#a02c6b;stroke-width:1.6;marker-end:url(#a)}.c{fill:none;stroke:#cf222e;stroke-width:3}\n</style>\n" ++ codes "<defs><pattern id='h' width='5' height='5' patternUnits='userSpaceOnUse' patternTransform='rotate(45)'><rect width='5' height='5' fill='#fff'/><rect width='2' height='5' fill='#b4bcc5'/></pattern>\n" ++ codes "<marker id='a' viewBox='0 0 6 6' refX='5' refY='3' markerWidth='7' markerHeight='7' markerUnits='userSpaceOnUse' orient='auto'><path d='M0 0L6 3L0 6z' fill='#a02c6b'/></marker></defs>\n" ++ codes "<rect width='100%' height='100%' fill='#fff'/>\n"
 
--- what is no mark: a wait, the bars and the arrows
+-- what is no mark: the arrows, the bars and a wait
 unfoldable pub other_words : List ℕ
 other_words =
-    codes "<rect class='h' x='44' y='57' width='22' height='7'/><text x='71' y='64'>waits in a condition, with its number</text><text x='294' y='64'>coloured, from m7 on striped: holds a mutex</text><text x='594' y='64'>below a mark: the number of its mutex, semaphore, condition or thread</text><rect class='e' x='1044' y='59' width='22' height='3'/><text x='1071' y='64'>a semaphore is taken</text>\n"
-    ++ codes "<path class='a' d='M844 43H866'/><text x='871' y='47'>lets another thread go on</text><path class='l' d='M1044 43H1066'/><text x='1071' y='47'>hands a mutex on</text>\n"
+    codes "<path class='a' d='M844 50H876'/><text x='883' y='54'>lets another thread go on</text><rect class='e' x='1044' y='44' width='34' height='12' rx='2'/><text class='x' x='1048' y='54'>s0</text><text x='1083' y='54'>semaphore s0 is taken</text>\n"
+    ++ codes "<rect class='m0' x='44' y='62' width='34' height='12' rx='2'/><text class='x' x='48' y='72'>m0</text><text x='83' y='72'>holds mutex m0</text><rect class='h' x='244' y='63' width='34' height='9'/><text class='d' x='248' y='71'>c0</text><text x='283' y='72'>waits in condition c0</text><text x='444' y='72'>beside a letter: the number of its condition, semaphore or thread</text>\n"
+
+-- the looks of the mutexes from the eighth on: pale with an edge, and from the fifteenth on a dashed one
+unfoldable pub many_style : List ℕ
+many_style =
+    codes "<style>\n.m7,.m14,.m21,.m28,.m35,.m42,.m49,.m56,.m63{fill:#f7dca6;stroke:#e69f00;stroke-width:1.5}.m8,.m15,.m22,.m29,.m36,.m43,.m50,.m57{fill:#a6cbe6;stroke:#0072b2;stroke-width:1.5}.m9,.m16,.m23,.m30,.m37,.m44,.m51,.m58{fill:#faf5b8;stroke:#f0e442;stroke-width:1.5}.m10,.m17,.m24,.m31,.m38,.m45,.m52,.m59{fill:#a6dccb;stroke:#009e73;stroke-width:1.5}.m11,.m18,.m25,.m32,.m39,.m46,.m53,.m60{fill:#edcfde;stroke:#cc79a7;stroke-width:1.5}.m12,.m19,.m26,.m33,.m40,.m47,.m54,.m61{fill:#cbe6f8;stroke:#56b4e9;stroke-width:1.5}.m13,.m20,.m27,.m34,.m41,.m48,.m55,.m62{fill:#f3c3a6;stroke:#d55e00;stroke-width:1.5}\n.m14,.m15,.m16,.m17,.m18,.m19,.m20{stroke-dasharray:7 3}.m21,.m22,.m23,.m24,.m25,.m26,.m27{stroke-dasharray:2 2}.m28,.m29,.m30,.m31,.m32,.m33,.m34{stroke-dasharray:12 2}.m35,.m36,.m37,.m38,.m39,.m40,.m41{stroke-dasharray:7 2 2 2}.m42,.m43,.m44,.m45,.m46,.m47,.m48{stroke-dasharray:4 4}.m49,.m50,.m51,.m52,.m53,.m54,.m55{stroke-dasharray:1 3}.m56,.m57,.m58,.m59,.m60,.m61,.m62{stroke-dasharray:12 2 2 2}.m63{stroke-dasharray:3 1}\n</style>\n"
+
+abbrev pub many_if : ℕ → List ℕ
+many_if mutexes = if nat_lt 7 mutexes then many_style else []
 
 -- what follows may be moved down, so that the overview has room above it
 unfoldable pub over_words : List ℕ
 over_words =
-    codes "<g class='w'>\n<text class='u' x='44' y='-4'>Overview: a column for a hundred events, with the threads that had one and below them the mutexes that were held; it links to its band</text>\n"
+    codes "<g class='w'>\n<text class='u' x='44' y='-4'>Overview: a column for fifty events, with the threads that had one and below them the mutexes that were held; it links to its band</text>\n"
 
 -- the first tag, the colours, what each mark and each colour means
 unfoldable pub head_text : Layout → List ℕ
 head_text l =
-    style_text ++ pattern_text ++ (each_below entry_at 16 ++ other_words) ++ each_below painted_text l.mutexes ++ over_words
-    ++ life_legend l.version
+    style_text ++ pattern_text ++ (each_below entry_at 16 ++ other_words) ++ many_if l.mutexes ++ over_words ++ life_legend l.version
 
 -- what events add behind this past, in order
 unfoldable pub steps_text : Layout → View → List Event → List Event → List ℕ
@@ -57,12 +64,12 @@ unfoldable pub end_text : Layout → View → Kept → ℕ → List ℕ → List
 end_text l v k n note =
     with_number (codes "<text x='44' y='") (height_of l v n + 14) ++ (codes "'>" ++ note) ++ part_text v n ++ codes "</text>\n"
     ++ holds_text l.mutexes k n (height_of l v n)
-    ++ (with_number (codes "</g>\n<style>:root{height:") (height_of l v n + 24 + holds_height l.mutexes + over_height l v n)
+    ++ (with_number (codes "</g>\n<style>:root{height:") (height_of l v n + 28 + holds_height l.mutexes + over_height l v n)
     ++ over_style l v n)
 
 -- the end of the last band after n events, where it is not full
 unfoldable pub closing_if : Layout → View → Kept → ℕ → List ℕ
-closing_if l v k n = if is_open v n then closing l v k (band_start v n) n else []
+closing_if l v k n = if is_open v n then closing l v (band_of l v n) k n else []
 
 abbrev pub last_closing : Layout → View → List Event → List ℕ
 last_closing l v es = closing_if l v (kept_since (behind [] es)) (length es)

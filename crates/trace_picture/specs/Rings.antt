@@ -1,5 +1,5 @@
 -- The rings around the events of a cycle of the lock order, and how the picture of a legal trace ends.
-use Rattle.std.specs.Prelude.{◌≡◌, ◌⊎◌, ℕ, ◌+◌, ◌-◌, ◌/◌, if◌then◌else◌, Bool, true, false, List, [], ◌++◌, length, codes, Result, OnOk, OnErr}
+use Rattle.std.specs.Prelude.{◌≡◌, ◌⊎◌, ℕ, ◌+◌, if◌then◌else◌, Bool, true, false, List, [], ◌++◌, length, codes, Result, OnOk, OnErr}
 use Rattle.std.specs.List.{flat_map}
 use Rattle.std.specs.Io.KnownBytes.{Appends}
 use Rattle.std.specs.declared.option.Option.{Option}
@@ -13,23 +13,21 @@ use Rattle.lock_order.specs.Order.{HasCycle, TellsCycle}
 use Rattle.lock_order.specs.Kept.{IsKept}
 use Rattle.trace_shapes.specs.declared.view.View.{View}
 use Rattle.trace_board.specs.Kept.{Kept, kept_since, behind}
-use Rattle.trace_shapes.specs.Places.{in_view, column, column_x, row_y, band_top}
+use Rattle.trace_shapes.specs.Places.{in_view, band_of, event_x, mark_y, band_top}
 use Rattle.trace_shapes.specs.Shapes.{with_number}
+use Rattle.trace_picture.specs.Bands.{band_number}
 use Rattle.trace_picture.specs.Picture.{closing_if, end_text, ending, legal_words, prefix_picture}
 
--- the middle of the mark of the event by which the inner mutex was got while the outer one was held, but for the half point that the text adds
-abbrev pub ring_x : View → Nested → ℕ
-ring_x v n = column_x (column v n.place) + 5
-
+-- the upper edge of the mark of the event by which the inner mutex was got while the outer one was held
 abbrev pub ring_y : Layout → View → Nested → ℕ
-ring_y l v n = band_top l ((n.place - v.first) / 100) + row_y n.thread.0 + 5
+ring_y l v n = band_top l (band_number v (band_of l v n.place)) + mark_y (band_of l v n.place) n.thread.0
 
--- a ring around this mark, with the two mutexes as its title
+-- an edge of this mark, with the two mutexes as its title
 unfoldable pub ring_text : Layout → View → Nested → List ℕ
 ring_text l v n =
-    with_number (codes "<circle class='c' r='8' cx='") (ring_x v n) ++ with_number (codes ".5' cy='") (ring_y l v n)
-    ++ with_number (codes ".5' fill='none' stroke='#c00' stroke-width='2'><title>m") n.outer.0 ++ with_number (codes " then m") n.inner.0
-    ++ codes "</title></circle>\n"
+    with_number (codes "<rect class='c' width='22' height='15' rx='3' x='") (event_x (band_of l v n.place) n.place)
+    ++ with_number (codes "' y='") (ring_y l v n) ++ with_number (codes "'><title>m") n.outer.0
+    ++ with_number (codes " then m") n.inner.0 ++ codes "</title></rect>\n"
 
 -- the ring, where the event is drawn
 abbrev pub ring_if : Layout → View → Nested → List ℕ

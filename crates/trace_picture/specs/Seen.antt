@@ -1,4 +1,4 @@
--- What the marks and the bars that are drawn say. Numbers of points stand here a second time, so that a change in one place is seen.
+-- What the marks and the bars that are drawn say.
 use Rattle.std.specs.Prelude.{◌≡◌, ◌≢◌, ℕ, ◌+◌, ◌-◌, ◌*◌, ◌%◌, ◌<◌, ◌≤◌, true, false, if◌then◌else◌, List, [], ◌∷◌, ◌++◌, length, codes, Some, MatchOption}
 use Rattle.larch_actions.specs.declared.event.Layout.{Layout}
 use Rattle.larch_actions.specs.declared.event.Version.TheVariants.{Two}
@@ -15,10 +15,12 @@ use Rattle.trace_shapes.specs.declared.view.View.{View}
 use Rattle.trace_shapes.specs.Looks.{look_of}
 use Rattle.trace_board.specs.Marks.{marks, marks_of}
 use Rattle.trace_board.specs.Kept.{Kept, kept_since, behind, longest_in, forked_by}
-use Rattle.trace_shapes.specs.Places.{in_view, column, bar_x, bar_width}
+use Rattle.trace_shapes.specs.declared.view.Band.{Band}
+use Rattle.trace_shapes.specs.declared.geometry.TheConstants.{BAND, COLUMN, LEFT, AXIS, MARK_TOP, LANE_TOP, LANE, BAR_GAP, ROW_RIGHT}
+use Rattle.trace_shapes.specs.Places.{in_view, column, band_of, lanes_of, row_step, row_height, bar_x, bar_width}
 use Rattle.trace_shapes.specs.Shapes.{each_below, place_text, box_text, row_text, with_number}
-use Rattle.trace_shapes.specs.Arrows.{arrow_text}
-use Rattle.trace_picture.specs.Bands.{band_start, opening, step_text}
+use Rattle.trace_shapes.specs.Arrows.{link, arrow_text}
+use Rattle.trace_picture.specs.Bands.{up_to, opening, step_text}
 use Rattle.trace_picture.specs.Picture.{end_text}
 use Rattle.trace_board.specs.Laws.{IsSince, IsMadeBy, HasEvent, is_live, is_ended}
 
@@ -56,23 +58,30 @@ pub record HasText (whole part : List ℕ) : Type 0 where
   pub after : List ℕ
   pub text : whole ≡ before ++ part ++ after
 
--- Each event in view has its mark, by the letter of its action, in its column of a hundred and in the row of its thread.
+-- the left edge of the column of the event n, and the upper edge of the row of the thread t
+abbrev pub left_of : View → ℕ → ℕ
+left_of v n = LEFT + COLUMN * ((n - v.first) % BAND)
+
+abbrev pub upper_of : Layout → ℕ → ℕ
+upper_of l t = AXIS + row_step (lanes_of l) * t
+
+-- Each event in view has its mark, by the letter of its action, in its column of the band and in the row of its thread.
 abbrev pub EventsAreMarked : Type 0
 EventsAreMarked =
     (l : Layout) (v : View) (k : Kept) (n : ℕ) (e : Event) → in_view v n ≡ true
     → HasText (step_text l v k n e) ((codes "<use href='#" ++ (look_of (marks e).mark).letter ∷ [])
-    ++ place_text (44 + 12 * ((n - v.first) % 100)) (18 + 34 * e.thread.0))
+    ++ place_text (left_of v n) (upper_of l e.thread.0 + MARK_TOP))
 
--- The bar that ends with the event at the place n, in the band from `start`, as a tag that begins so: it goes from the event that took what the bar is
--- of, in the row of the thread that did, from the column of the taking, or the band's first, to that of the event, but for the gaps.
-pub record IsBarTo (whole : List ℕ) (past : List Event) (name : List ℕ) (b : Bar) (start n : ℕ) : Type 0 where
+-- The bar that ends with the event at the place n, in the band b of the layout l, as a tag that begins so: it goes from the event that took what the bar
+-- is of, in the row of the thread that did, from the left edge of the column of the taking, or of the band's first, up to the gap before the next.
+pub record IsBarTo (whole : List ℕ) (past : List Event) (name : List ℕ) (x : Bar) (l : Layout) (b : Band) (n : ℕ) : Type 0 where
   pub o : Origin
   pub lane : ℕ
-  pub since : IsSince b o past
-  pub drawn : HasText whole (name ++ box_text (bar_x start o (n + 1)) (37 + 34 * o.thread.0 + 3 * lane) (bar_width start o true (n + 1)))
-  pub from_taking : start ≤ o.place → bar_x start o (n + 1) ≡ 46 + 12 * (o.place - start)
-  pub from_before : o.place < start → bar_x start o (n + 1) ≡ 44
-  pub ends : bar_x start o (n + 1) + bar_width start o true (n + 1) ≡ 54 + 12 * (n - start)
+  pub since : IsSince x o past
+  pub drawn : HasText whole (name ++ box_text (bar_x (up_to b n) o) (upper_of l o.thread.0 + LANE_TOP + LANE * lane) (bar_width (up_to b n) o))
+  pub from_taking : b.start ≤ o.place → bar_x (up_to b n) o ≡ LEFT + COLUMN * (o.place - b.start)
+  pub from_before : o.place < b.start → bar_x (up_to b n) o ≡ LEFT
+  pub ends : bar_x (up_to b n) o + bar_width (up_to b n) o ≡ LEFT + COLUMN * (n + 1 - b.start) - BAR_GAP
 
 -- Each event of a run that gives a mutex back ends its bar, in the row of its thread, where the event is in view.
 abbrev pub BarsAreDrawn : Type 0
@@ -80,7 +89,7 @@ BarsAreDrawn =
     (l : Layout) (v : View) (es : List Event) (s : Spec) → IsRun l.version es s → (e : Event) → MayAct s e → (m : ℕ)
     → (marks e).mutex ≡ Ends m → in_view v (length es) ≡ true
     → (w : IsBarTo (step_text l v (kept_since (behind [] es)) (length es) e) (behind [] es) (with_number (codes "<rect class='m") m)
-    (Mutex m) (band_start v (length es)) (length es)) × (w.o.thread.0 ≡ e.thread.0)
+    (Mutex m) l (band_of l v (length es)) (length es)) × (w.o.thread.0 ≡ e.thread.0)
 
 -- Each event that makes a semaphore available which wasn't ends its bar, in the row of the thread that took it, where the event is in view.
 abbrev pub TakingsAreDrawn : Type 0
@@ -88,28 +97,32 @@ TakingsAreDrawn =
     (l : Layout) (v : View) (es : List Event) (s : Spec) → IsRun l.version es s → (e : Event) → (k : ℕ) → (marks e).semaphore ≡ Ends k
     → s.avail k ≡ false → in_view v (length es) ≡ true
     → IsBarTo (step_text l v (kept_since (behind [] es)) (length es) e) (behind [] es) (codes "<rect class='e") (Semaphore k)
-    (band_start v (length es)) (length es)
+    l (band_of l v (length es)) (length es)
 
 -- In version two a band begins with the rows of the threads that live, and with no others.
 abbrev pub RowsStand : Type 0
 RowsStand =
     (l : Layout) (v : View) (es : List Event) (s : Spec) → l.version ≡ Two → IsRun l.version es s → column v (length es) ≡ 0
     → HasText (opening l v (kept_since (behind [] es)) (length es)) (each_below
-    (λ t. if is_live (s.life t) then row_text t else []) l.threads)
+    (λ t. if is_live (s.life t) then row_text (band_of l v (length es)) t else []) l.threads)
+
+-- a tag that begins so, over the row of the thread t from x to the right edge
+abbrev pub row_tag : List ℕ → Layout → ℕ → ℕ → List ℕ
+row_tag name l x t =
+    name ++ (with_number (codes "' height='") (row_height (lanes_of l)) ++ with_number (codes "' width='") (ROW_RIGHT - x)
+    ++ place_text x (upper_of l t))
 
 -- Each fork in view begins the row of the thread that it forks, in its own column, up to the right edge.
 abbrev pub RowsBegin : Type 0
 RowsBegin =
     (l : Layout) (v : View) (k : Kept) (n : ℕ) (e : Event) (who : ThreadId) → e.action ≡ Fork who → in_view v n ≡ true
-    → HasText (step_text l v k n e) (with_number (codes "<rect class='r' height='32' width='") (1204 - 12 * ((n - v.first) % 100))
-    ++ place_text (44 + 12 * ((n - v.first) % 100)) (18 + 34 * who.0))
+    → HasText (step_text l v k n e) (row_tag (codes "<rect class='r") l (left_of v n) who.0)
 
--- Each end in view cuts the row of its thread off behind its own column, up to the right edge.
+-- Each end in view cuts the row of its thread off after its own column, up to the right edge.
 abbrev pub RowsEnd : Type 0
 RowsEnd =
     (l : Layout) (v : View) (k : Kept) (n : ℕ) (e : Event) → e.action ≡ End → in_view v n ≡ true
-    → HasText (step_text l v k n e) (with_number (codes "<rect class='z' height='32' width='") (1192 - 12 * ((n - v.first) % 100))
-    ++ place_text (56 + 12 * ((n - v.first) % 100)) (18 + 34 * e.thread.0))
+    → HasText (step_text l v k n e) (row_tag (codes "<rect class='z") l (left_of v n + COLUMN) e.thread.0)
 
 -- Each join in view has an arrow from the end of the thread that it joins.
 abbrev pub JoinsAreDrawn : Type 0
@@ -117,7 +130,7 @@ JoinsAreDrawn =
     (l : Layout) (v : View) (es : List Event) (s : Spec) → IsRun l.version es s → (e : Event) → MayAct s e → (who : ThreadId)
     → e.action ≡ Join who → in_view v (length es) ≡ true
     → (o : Origin) × IsMadeBy l.version (λ z. is_ended (z.life who.0)) es s o
-    × HasText (step_text l v (kept_since (behind [] es)) (length es) e) (arrow_text (band_start v (length es)) (length es) e.thread.0 o)
+    × HasText (step_text l v (kept_since (behind [] es)) (length es) e) (arrow_text (link (band_of l v (length es)) (length es) e.thread.0 o))
 
 -- The first event of each thread that was forked has, in view, an arrow from its fork.
 abbrev pub ForksAreDrawn : Type 0
@@ -125,15 +138,15 @@ ForksAreDrawn =
     (l : Layout) (v : View) (es : List Event) (s : Spec) → IsRun l.version es s → (e : Event) → MayAct s e → (o : Origin)
     → forked_by (kept_since (behind [] es)) e.thread.0 ≡ Some o → in_view v (length es) ≡ true
     → IsMadeBy l.version (λ z. is_live (z.life e.thread.0)) es s o × (HasEvent e.thread.0 0 (behind [] es) → ⊥)
-    × HasText (step_text l v (kept_since (behind [] es)) (length es) e) (arrow_text (band_start v (length es)) (length es) e.thread.0 o)
+    × HasText (step_text l v (kept_since (behind [] es)) (length es) e) (arrow_text (link (band_of l v (length es)) (length es) e.thread.0 o))
 
 -- The last lines of a picture tell the longest hold of each mutex: by whom, how many events, from which event to which, or that there is none.
 abbrev pub HoldsAreTold : Type 0
 HoldsAreTold =
     (l : Layout) (v : View) (past : List Event) (n : ℕ) (note : List ℕ) (m : ℕ) → m < l.mutexes
     → MatchOption (longest_in (kept_since past) n m)
-    (HasText (end_text l v (kept_since past) n note) (with_number (codes "'>m") m ++ codes " never held"))
-    (λ h. HasText (end_text l v (kept_since past) n note) (with_number (codes "'>m") m
-    ++ (with_number (codes " longest held by t") h.since.thread.0 ++ with_number (codes ", events: ") (h.last - h.since.place)
-    ++ with_number (codes ", from ") h.since.place
+    (HasText (end_text l v (kept_since past) n note) ((with_number (codes "'><title>m") m ++ codes "</title>") ++ codes "never held"))
+    (λ h. HasText (end_text l v (kept_since past) n note) ((with_number (codes "'><title>m") m ++ codes "</title>")
+    ++ (with_number (codes "longest: t") h.since.thread.0 ++ with_number (codes ", events: ") (h.last - h.since.place)
+    ++ with_number (codes ", ") h.since.place
     ++ (if h.ended then with_number (codes " to ") h.last else codes " on"))))

@@ -4,61 +4,94 @@ ghost use Rattle.larch_actions.specs.Layout.{IsLawful, HasNames};
 ghost use Rattle.trace_board.specs.History.{entry_of, IsWithin};
 ghost use Rattle.trace_board.specs.Kept.{kept_of, kept_after, IsNoted};
 ghost use Rattle.trace_board.specs.Marks.{marks};
-ghost use Rattle.trace_board.specs.Rows.{row_of};
-ghost use Rattle.trace_shapes.specs.Places.{in_view, column, is_open, first_top, band_top};
+ghost use Rattle.trace_shapes.specs.Places.{in_view, column, is_open, band_of, first_top, band_height, band_top};
 ghost use Rattle.trace_shapes.specs.Shapes.{with_number, each_below, number_text, object_if, failed_text};
-ghost use Rattle.trace_picture.specs.Bands.{opening, bar_if, taken_if, wait_if, closing, bar_ended, taken_ended, wait_ended, closing_after, bars_ended, arrow_to, event_shapes, step_text, failing_text};
+ghost use Rattle.trace_picture.specs.Bands.{band_number, lines_height, lines_text, band_tag, opening, on_to, up_to, strip_of, taken_strip, bar_if, taken_if, wait_if, bars_on, closing, bar_ended, taken_ended, wait_ended, closing_after, bars_ended, arrow_to, event_shapes, step_text, failing_text};
 
 use crate::lives::{add_births, add_life_row, add_rows};
 use crate::overview::add_column;
 use larch_actions::{Broken, Event, Layout, Version};
 use trace_board::board::Board;
-use trace_board::history::{Effect, Origin, Table};
+use trace_board::history::{Effect, Origin};
 use trace_board::marks::{Marks, marks_of};
-use trace_board::rows::{Bar, Rows};
+use trace_board::rows::Bar;
 use trace_core::add;
-use trace_shapes::arrows::{add_arrow_if, add_handed};
+use trace_shapes::arrows::add_arrow_if;
+use trace_shapes::geometry::{AXIS, BAND, BAND_GAP, LINES_TOP, TOP_ONE, TOP_TWO};
 use trace_shapes::shapes::{
-    add_bar, add_failed, add_label, add_mark, add_object_if, add_taken_bar, add_wait_bar,
+    add_bar, add_failed, add_label, add_mark, add_object_if, add_taken_bar, add_wait_bar, row_step,
 };
 use trace_shapes::tags::add_with_number;
-use trace_shapes::view::{View, column_of, is_band_open, is_in_view};
+use trace_shapes::view::{
+    Band, Reach, Strip, View, band_of, column_of, is_band_open, is_in_view, lanes_of,
+};
 
 // The upper edge of the first band.
 fn first_top(version: Version) -> u64
     ensures top { result ≡ first_top version }
-    ensures small { result ≤ 132 }
+    ensures small { result ≤ 1000 }
 {
     match version {
-        Version::One => 116,
-        Version::Two => 132,
+        Version::One => TOP_ONE,
+        Version::Two => TOP_TWO,
     }
 }
 
-/// The upper edge of a band.
+// How far below one another the bands stand.
 #[tactic(auto, using(larch_actions::proofs::Names::few_threads))]
+fn height_of_band(layout: &Layout) -> u64
+    requires { IsLawful layout.now }
+    ensures height { result ≡ band_height layout.now }
+    ensures small { result < 2 ^ 17 }
+    ensures large { 32 ≤ result }
+{
+    row_step(lanes_of(layout)) * u64::from(layout.threads) + (AXIS + BAND_GAP)
+}
+
+/// The upper edge of a band.
 pub fn top_of(layout: &Layout, band: u64) -> u64
     requires lawful { IsLawful layout.now }
     requires few { band < 2 ^ 42 }
     ensures top { result ≡ band_top layout.now band }
     ensures small { result < 2 ^ 60 }
 {
-    let height = 34 * u64::from(layout.threads) + 30;
-    first_top(layout.version) + band * height
+    first_top(layout.version) + band * height_of_band(layout)
+}
+
+/// The number of a band.
+pub fn number_of(view: &View, band: &Band) -> u64
+    ensures number { result ≡ band_number view.now band.now }
+    ensures small { result ≤ band.now.start }
+{
+    band.start.saturating_sub(view.first) / BAND
 }
 
 // Adds the first tag of a band.
+#[tactic(auto, unfolding(crate::specs::Bands::band_tag))]
 fn add_band(buf: &mut [u8], at: usize, layout: &Layout, band: u64) -> usize
     requires lawful { IsLawful layout.now }
     requires few { band < 2 ^ 42 }
     requires room { at + 100 ≤ length buf.old }
-    ensures text { take result buf.new ≡ take at buf.old ++ (with_number (codes "<g id='b") band ++ with_number (codes "' transform='translate(0 ")
-        (band_top layout.now band) ++ codes ")'>\n") }
+    ensures text { take result buf.new ≡ take at buf.old ++ band_tag layout.now band }
     ensures near { result ≤ at + 100 }
 {
     let at = add_with_number(buf, at, b"<g id='b", band);
     let at = add_with_number(buf, at, b"' transform='translate(0 ", top_of(layout, band));
     add(buf, at, b")'>\n")
+}
+
+// Adds the lines at each tenth column.
+#[tactic(auto, unfolding(crate::specs::Bands::lines_text))]
+fn add_lines(buf: &mut [u8], at: usize, height: u64) -> usize
+    requires { at + 200 ≤ length buf.old }
+    ensures text { take result buf.new ≡ take at buf.old ++ lines_text height }
+    ensures near { result ≤ at + 200 }
+{
+    let at = add_with_number(buf, at, b"<path class='l' d='M283 17v", height);
+    let at = add_with_number(buf, at, b"M523 17v", height);
+    let at = add_with_number(buf, at, b"M763 17v", height);
+    let at = add_with_number(buf, at, b"M1003 17v", height);
+    add(buf, at, b"'/>\n")
 }
 
 // Adds a new band where the event begins one.
@@ -73,184 +106,167 @@ fn add_opening(
 ) -> usize
     requires lawful { IsLawful layout.now }
     requires few { place < 2 ^ 41 }
-    requires room { at + 52000 ≤ length buf.old }
+    requires room { at + 65000 ≤ length buf.old }
     ensures text { take result buf.new ≡ take at buf.old ++ opening layout.now view.now (kept_of board.now) place }
-    ensures near { result ≤ at + 51400 }
+    ensures near { result ≤ at + 65000 }
 {
     if column_of(view, place) == 0 {
-        let at = add_band(buf, at, layout, place.saturating_sub(view.first) / 100);
-        add_rows(buf, at, layout.version, board, layout.threads)
+        let band = band_of(layout, view, place);
+        let at = add_band(buf, at, layout, number_of(view, &band));
+        let at = add_rows(buf, at, layout, &band, board);
+        add_lines(buf, at, height_of_band(layout) - (BAND_GAP + LINES_TOP))
     } else {
         at
     }
 }
 
 // Adds the bar of a mutex where it is held.
-fn add_bar_if(
-    buf: &mut [u8],
-    at: usize,
-    start: u64,
-    ended: bool,
-    to: u64,
-    rows: &Rows,
-    mutex: u32,
-    o: Option<Origin>,
-) -> usize
-    requires room { at + 350 ≤ length buf.old }
-    requires place { to < 2 ^ 42 }
-    ensures text { take result buf.new ≡ take at buf.old ++ bar_if start ended to (row_of rows.now) mutex o }
-    ensures near { result ≤ at + 350 }
+fn add_bar_if(buf: &mut [u8], at: usize, reach: &Reach, board: &Board, mutex: u32) -> usize
+    requires few { mutex < 256 }
+    requires room { at + 550 ≤ length buf.old }
+    requires place { reach.now.to < 2 ^ 42 }
+    ensures text { take result buf.new ≡ take at buf.old ++ bar_if reach.now (kept_of board.now) mutex (entry_of board.now.held mutex) }
+    ensures near { result ≤ at + 550 }
 {
-    match o {
-        Some(o) => {
-            let lane = rows.lane(o.thread, Bar::Mutex(mutex));
-            add_bar(buf, at, start, mutex, lane, &o, ended, to)
+    match board.held.at(mutex) {
+        Some(since) => {
+            let strip = Strip {
+                number: mutex,
+                lane: board.rows.lane(since.thread, Bar::Mutex(mutex)),
+                since,
+                given: board.given.at(mutex),
+            };
+            add_bar(buf, at, reach, &strip)
         }
         None => at,
     }
 }
 
 // Adds the bar of a semaphore where it is taken.
-fn add_taken_if(
-    buf: &mut [u8],
-    at: usize,
-    start: u64,
-    ended: bool,
-    to: u64,
-    rows: &Rows,
-    sem: u32,
-    o: Option<Origin>,
-) -> usize
-    requires room { at + 350 ≤ length buf.old }
-    requires place { to < 2 ^ 42 }
-    ensures text { take result buf.new ≡ take at buf.old ++ taken_if start ended to (row_of rows.now) sem o }
-    ensures near { result ≤ at + 350 }
+fn add_taken_if(buf: &mut [u8], at: usize, reach: &Reach, board: &Board, sem: u32) -> usize
+    requires few { sem < 256 }
+    requires room { at + 550 ≤ length buf.old }
+    requires place { reach.now.to < 2 ^ 42 }
+    ensures text { take result buf.new ≡ take at buf.old ++ taken_if reach.now (kept_of board.now) sem (entry_of board.now.taken sem) }
+    ensures near { result ≤ at + 550 }
 {
-    match o {
-        Some(o) => {
-            let lane = rows.lane(o.thread, Bar::Semaphore(sem));
-            add_taken_bar(buf, at, start, sem, lane, &o, ended, to)
+    match board.taken.at(sem) {
+        Some(since) => {
+            let strip = Strip {
+                number: sem,
+                lane: board.rows.lane(since.thread, Bar::Semaphore(sem)),
+                since,
+                given: None,
+            };
+            add_taken_bar(buf, at, reach, &strip)
         }
         None => at,
     }
 }
 
-// Adds the bar of a wait where a thread waits.
-fn add_wait_if(
-    buf: &mut [u8],
-    at: usize,
-    start: u64,
-    ended: bool,
-    to: u64,
-    o: Option<Origin>,
-) -> usize
-    requires room { at + 450 ≤ length buf.old }
-    requires place { to < 2 ^ 42 }
-    ensures text { take result buf.new ≡ take at buf.old ++ wait_if start ended to o }
-    ensures near { result ≤ at + 450 }
+// Adds the wait of a thread where it waits.
+fn add_wait_if(buf: &mut [u8], at: usize, reach: &Reach, board: &Board, thread: u32) -> usize
+    requires few { thread < 256 }
+    requires room { at + 480 ≤ length buf.old }
+    requires place { reach.now.to < 2 ^ 42 }
+    ensures text { take result buf.new ≡ take at buf.old ++ wait_if reach.now (entry_of board.now.waits thread) }
+    ensures near { result ≤ at + 480 }
 {
-    match o {
-        Some(o) => add_wait_bar(buf, at, start, &o, ended, to),
+    match board.waits.at(thread) {
+        Some(o) => add_wait_bar(buf, at, reach, &o),
         None => at,
     }
 }
 
 // Adds the bars of the mutexes that are held.
-fn add_bars(
-    buf: &mut [u8],
-    at: usize,
-    mutexes: u32,
-    rows: &Rows,
-    held: &Table,
-    start: u64,
-    to: u64,
-) -> usize
+fn add_bars(buf: &mut [u8], at: usize, reach: &Reach, board: &Board, mutexes: u32) -> usize
     requires few { mutexes ≤ 64 }
-    requires place { to < 2 ^ 42 }
-    requires room { at + 350 * mutexes ≤ length buf.old }
-    ensures text { take result buf.new ≡ take at buf.old ++ each_below (λ m. bar_if start false to (row_of rows.now) m
-        (entry_of held.now m)) mutexes }
-    ensures near { result ≤ at + 350 * mutexes }
+    requires place { reach.now.to < 2 ^ 42 }
+    requires room { at + 550 * mutexes ≤ length buf.old }
+    ensures text { take result buf.new ≡ take at buf.old ++ each_below (λ m. bar_if reach.now (kept_of board.now) m
+        (entry_of board.now.held m)) mutexes }
+    ensures near { result ≤ at + 550 * mutexes }
 {
     let mut last = at;
     for m in 0..mutexes {
-        last = add_bar_if(buf, last, start, false, to, rows, m, held.at(m));
+        last = add_bar_if(buf, last, reach, board, m);
     }
     last
 }
 
 // Adds the bars of the semaphores that are taken.
-fn add_takings(
-    buf: &mut [u8],
-    at: usize,
-    semaphores: u32,
-    rows: &Rows,
-    taken: &Table,
-    start: u64,
-    to: u64,
-) -> usize
+fn add_takings(buf: &mut [u8], at: usize, reach: &Reach, board: &Board, semaphores: u32) -> usize
     requires few { semaphores ≤ 64 }
-    requires place { to < 2 ^ 42 }
-    requires room { at + 350 * semaphores ≤ length buf.old }
-    ensures text { take result buf.new ≡ take at buf.old ++ each_below (λ s. taken_if start false to (row_of rows.now) s
-        (entry_of taken.now s)) semaphores }
-    ensures near { result ≤ at + 350 * semaphores }
+    requires place { reach.now.to < 2 ^ 42 }
+    requires room { at + 550 * semaphores ≤ length buf.old }
+    ensures text { take result buf.new ≡ take at buf.old ++ each_below (λ s. taken_if reach.now (kept_of board.now) s
+        (entry_of board.now.taken s)) semaphores }
+    ensures near { result ≤ at + 550 * semaphores }
 {
     let mut last = at;
     for s in 0..semaphores {
-        last = add_taken_if(buf, last, start, false, to, rows, s, taken.at(s));
+        last = add_taken_if(buf, last, reach, board, s);
     }
     last
 }
 
-// Adds the bars of the threads that wait.
-fn add_waits(buf: &mut [u8], at: usize, threads: u32, waits: &Table, start: u64, to: u64) -> usize
+// Adds the threads that wait.
+fn add_waits(buf: &mut [u8], at: usize, reach: &Reach, board: &Board, threads: u32) -> usize
     requires few { threads ≤ 256 }
-    requires place { to < 2 ^ 42 }
-    requires room { at + 450 * threads ≤ length buf.old }
-    ensures text { take result buf.new ≡ take at buf.old ++ each_below (λ t. wait_if start false to (entry_of waits.now t)) threads }
-    ensures near { result ≤ at + 450 * threads }
+    requires place { reach.now.to < 2 ^ 42 }
+    requires room { at + 480 * threads ≤ length buf.old }
+    ensures text { take result buf.new ≡ take at buf.old ++ each_below (λ t. wait_if reach.now (entry_of board.now.waits t)) threads }
+    ensures near { result ≤ at + 480 * threads }
 {
     let mut last = at;
     for t in 0..threads {
-        last = add_wait_if(buf, last, start, false, to, waits.at(t));
+        last = add_wait_if(buf, last, reach, board, t);
     }
     last
 }
 
-/// Adds the end of a band.
+// Adds the bars that go on.
+#[tactic(auto, using(larch_actions::proofs::Names::few_threads), unfolding(crate::specs::Bands::bars_on))]
+fn add_bars_on(buf: &mut [u8], at: usize, layout: &Layout, reach: &Reach, board: &Board) -> usize
+    requires lawful { IsLawful layout.now }
+    requires place { reach.now.to < 2 ^ 42 }
+    requires room { at + 194000 ≤ length buf.old }
+    ensures text { take result buf.new ≡ take at buf.old ++ bars_on layout.now reach.now (kept_of board.now) }
+    ensures near { result ≤ at + 194000 }
+{
+    let at = add_bars(buf, at, reach, board, layout.mutexes);
+    let at = add_takings(buf, at, reach, board, layout.semaphores);
+    add_waits(buf, at, reach, board, layout.threads)
+}
+
+/// Adds the end of a band, before the event `to`.
 #[tactic(auto, using(larch_actions::proofs::Names::few_threads), unfolding(crate::specs::Bands::closing))]
 pub fn add_closing(
     buf: &mut [u8],
     at: usize,
     layout: &Layout,
     view: &View,
+    band: &Band,
     board: &Board,
-    start: u64,
     to: u64,
 ) -> usize
     requires lawful { IsLawful layout.now }
-    requires start { start < 2 ^ 42 }
+    requires start { band.now.start < 2 ^ 42 }
     requires place { to < 2 ^ 42 }
-    requires room { at + 290000 ≤ length buf.old }
-    ensures text { take result buf.new ≡ take at buf.old ++ closing layout.now view.now (kept_of board.now) start to }
-    ensures near { result ≤ at + 290000 }
+    requires room { at + 330000 ≤ length buf.old }
+    ensures text { take result buf.new ≡ take at buf.old ++ closing layout.now view.now band.now (kept_of board.now) to }
+    ensures near { result ≤ at + 330000 }
 {
-    let at = add_bars(buf, at, layout.mutexes, &board.rows, &board.held, start, to);
-    let at = add_takings(
-        buf,
-        at,
-        layout.semaphores,
-        &board.rows,
-        &board.taken,
-        start,
+    let reach = Reach {
+        band: *band,
         to,
-    );
-    let at = add_waits(buf, at, layout.threads, &board.waits, start, to);
-    let at = add_births(buf, at, layout.version, board, start, to, layout.threads);
+        ended: false,
+    };
+    let at = add_bars_on(buf, at, layout, &reach, board);
+    let at = add_births(buf, at, layout, band, board, to);
     let at = add(buf, at, b"</g>\n");
-    let band = start.saturating_sub(view.first) / 100;
-    add_column(buf, at, layout, board, band, start, to)
+    let number = number_of(view, band);
+    add_column(buf, at, layout, board, number, band.start, to)
 }
 
 // Adds the end of a band after the event, where it is full or the part that is drawn ends.
@@ -265,36 +281,28 @@ fn add_closing_after(
 ) -> usize
     requires lawful { IsLawful layout.now }
     requires few { place < 2 ^ 41 }
-    requires room { at + 290000 ≤ length buf.old }
+    requires room { at + 330000 ≤ length buf.old }
     ensures text { take result buf.new ≡ take at buf.old ++ closing_after layout.now view.now (kept_of board.now) place }
-    ensures near { result ≤ at + 290000 }
+    ensures near { result ≤ at + 330000 }
 {
     if is_band_open(view, place + 1) {
         at
     } else {
-        let start = place - column_of(view, place);
-        add_closing(buf, at, layout, view, board, start, place + 1)
+        let band = band_of(layout, view, place);
+        add_closing(buf, at, layout, view, &band, board, place + 1)
     }
 }
 
 // Adds the bar that ends with the event.
-fn add_bar_ended(
-    buf: &mut [u8],
-    at: usize,
-    start: u64,
-    place: u64,
-    rows: &Rows,
-    held: &Table,
-    effect: Effect,
-) -> usize
+fn add_bar_ended(buf: &mut [u8], at: usize, reach: &Reach, board: &Board, effect: Effect) -> usize
     requires within { IsWithin effect }
-    requires few { place < 2 ^ 41 }
-    requires room { at + 350 ≤ length buf.old }
-    ensures text { take result buf.new ≡ take at buf.old ++ bar_ended start place (row_of rows.now) (entry_of held.now) effect }
-    ensures near { result ≤ at + 350 }
+    requires few { reach.now.to < 2 ^ 42 }
+    requires room { at + 550 ≤ length buf.old }
+    ensures text { take result buf.new ≡ take at buf.old ++ bar_ended reach.now (kept_of board.now) effect }
+    ensures near { result ≤ at + 550 }
 {
     match effect {
-        Effect::Ends(k) => add_bar_if(buf, at, start, true, place + 1, rows, k, held.at(k)),
+        Effect::Ends(m) => add_bar_if(buf, at, reach, board, m),
         Effect::Begins(_) => at,
         Effect::Stays => at,
     }
@@ -304,84 +312,58 @@ fn add_bar_ended(
 fn add_taken_ended(
     buf: &mut [u8],
     at: usize,
-    start: u64,
-    place: u64,
-    rows: &Rows,
-    taken: &Table,
+    reach: &Reach,
+    board: &Board,
     effect: Effect,
 ) -> usize
     requires within { IsWithin effect }
-    requires few { place < 2 ^ 41 }
-    requires room { at + 350 ≤ length buf.old }
-    ensures text { take result buf.new ≡ take at buf.old ++ taken_ended start place (row_of rows.now) (entry_of taken.now) effect }
-    ensures near { result ≤ at + 350 }
+    requires few { reach.now.to < 2 ^ 42 }
+    requires room { at + 550 ≤ length buf.old }
+    ensures text { take result buf.new ≡ take at buf.old ++ taken_ended reach.now (kept_of board.now) effect }
+    ensures near { result ≤ at + 550 }
 {
     match effect {
-        Effect::Ends(k) => add_taken_if(buf, at, start, true, place + 1, rows, k, taken.at(k)),
+        Effect::Ends(s) => add_taken_if(buf, at, reach, board, s),
         Effect::Begins(_) => at,
         Effect::Stays => at,
     }
 }
 
 // Adds the wait that ends with the event.
-fn add_wait_ended(
-    buf: &mut [u8],
-    at: usize,
-    start: u64,
-    place: u64,
-    waits: &Table,
-    effect: Effect,
-) -> usize
+fn add_wait_ended(buf: &mut [u8], at: usize, reach: &Reach, board: &Board, effect: Effect) -> usize
     requires within { IsWithin effect }
-    requires few { place < 2 ^ 41 }
-    requires room { at + 450 ≤ length buf.old }
-    ensures text { take result buf.new ≡ take at buf.old ++ wait_ended start place (entry_of waits.now) effect }
-    ensures near { result ≤ at + 450 }
+    requires few { reach.now.to < 2 ^ 42 }
+    requires room { at + 480 ≤ length buf.old }
+    ensures text { take result buf.new ≡ take at buf.old ++ wait_ended reach.now (kept_of board.now) effect }
+    ensures near { result ≤ at + 480 }
 {
     match effect {
-        Effect::Ends(k) => add_wait_if(buf, at, start, true, place + 1, waits.at(k)),
+        Effect::Ends(t) => add_wait_if(buf, at, reach, board, t),
         Effect::Begins(_) => at,
         Effect::Stays => at,
     }
 }
 
-// Adds the bars that the event ends.
-fn add_bars_ended(
-    buf: &mut [u8],
-    at: usize,
-    view: &View,
-    board: &Board,
-    place: u64,
-    e: &Event,
-    shown: &Marks,
-) -> usize
-    requires same { shown.now ≡ marks e.now }
-    requires noted { IsNoted e.now }
-    requires few { place < 2 ^ 41 }
-    requires room { at + 1150 ≤ length buf.old }
-    ensures text { take result buf.new ≡ take at buf.old ++ bars_ended view.now (kept_of board.now) place e.now }
-    ensures near { result ≤ at + 1150 }
+// Adds the bars that end with the event that shows this.
+fn add_bars_ended(buf: &mut [u8], at: usize, reach: &Reach, board: &Board, shown: &Marks) -> usize
+    requires held { IsWithin shown.now.mutex }
+    requires taken { IsWithin shown.now.semaphore }
+    requires waits { IsWithin shown.now.wait }
+    requires few { reach.now.to < 2 ^ 42 }
+    requires room { at + 1580 ≤ length buf.old }
+    ensures text { take result buf.new ≡ take at buf.old ++ bars_ended reach.now (kept_of board.now) shown.now }
+    ensures near { result ≤ at + 1580 }
 {
-    let start = place - column_of(view, place);
-    let at = add_bar_ended(buf, at, start, place, &board.rows, &board.held, shown.mutex);
-    let at = add_taken_ended(
-        buf,
-        at,
-        start,
-        place,
-        &board.rows,
-        &board.taken,
-        shown.semaphore,
-    );
-    add_wait_ended(buf, at, start, place, &board.waits, shown.wait)
+    let at = add_bar_ended(buf, at, reach, board, shown.mutex);
+    let at = add_taken_ended(buf, at, reach, board, shown.semaphore);
+    add_wait_ended(buf, at, reach, board, shown.wait)
 }
 
-// Adds the arrow to the event, where another thread let its thread go on, that to a thread's first event from its fork, and the line, where another
-// handed a mutex on.
+// Adds the arrow to the event, where another thread let its thread go on, and that to a thread's first event from its fork.
 fn add_arrow_to(
     buf: &mut [u8],
     at: usize,
-    view: &View,
+    band: &Band,
     board: &Board,
     place: u64,
     e: &Event,
@@ -390,16 +372,14 @@ fn add_arrow_to(
     requires same { shown.now ≡ marks e.now }
     requires noted { IsNoted e.now }
     requires few { place < 2 ^ 41 }
-    requires room { at + 1100 ≤ length buf.old }
-    ensures text { take result buf.new ≡ take at buf.old ++ arrow_to view.now (kept_of board.now) place e.now }
-    ensures near { result ≤ at + 1100 }
+    requires room { at + 700 ≤ length buf.old }
+    ensures text { take result buf.new ≡ take at buf.old ++ arrow_to band.now (kept_of board.now) place e.now }
+    ensures near { result ≤ at + 700 }
 {
-    let start = place - column_of(view, place);
     let by = board.waker(shown.waker);
-    let at = add_arrow_if(buf, at, start, place, e.thread, by);
+    let at = add_arrow_if(buf, at, band, place, e.thread.0, by);
     let fork = board.forked_by(e.thread.0);
-    let at = add_arrow_if(buf, at, start, place, e.thread, fork);
-    add_handed(buf, at, start, place, e.thread, &board.given, shown.mutex)
+    add_arrow_if(buf, at, band, place, e.thread.0, fork)
 }
 
 // Adds the number of an event, the row that it begins or ends, its mark and the number of its object, the bars that it ends, and the arrows to it.
@@ -407,24 +387,29 @@ fn add_arrow_to(
 fn add_event_shapes(
     buf: &mut [u8],
     at: usize,
-    view: &View,
+    band: &Band,
     board: &Board,
     place: u64,
     e: &Event,
 ) -> usize
     requires noted { IsNoted e.now }
     requires few { place < 2 ^ 41 }
-    requires room { at + 4400 ≤ length buf.old }
-    ensures text { take result buf.new ≡ take at buf.old ++ event_shapes view.now (kept_of board.now) place e.now }
-    ensures near { result ≤ at + 4400 }
+    requires room { at + 4600 ≤ length buf.old }
+    ensures text { take result buf.new ≡ take at buf.old ++ event_shapes band.now (kept_of board.now) place e.now }
+    ensures near { result ≤ at + 4600 }
 {
     let shown = marks_of(e.thread, &e.action);
-    let at = add_label(buf, at, view, place);
-    let at = add_life_row(buf, at, view, place, shown.life);
-    let at = add_mark(buf, at, view, place, e, &shown);
-    let at = add_object_if(buf, at, view, place, e, &shown);
-    let at = add_bars_ended(buf, at, view, board, place, e, &shown);
-    add_arrow_to(buf, at, view, board, place, e, &shown)
+    let reach = Reach {
+        band: *band,
+        to: place + 1,
+        ended: true,
+    };
+    let at = add_label(buf, at, band, place);
+    let at = add_life_row(buf, at, band, place, shown.life);
+    let at = add_mark(buf, at, band, place, e, &shown);
+    let at = add_object_if(buf, at, band, place, e, &shown);
+    let at = add_bars_ended(buf, at, &reach, board, &shown);
+    add_arrow_to(buf, at, band, board, place, e, &shown)
 }
 
 // Adds what the event shows, and the end of its band, where it is drawn.
@@ -440,15 +425,16 @@ fn add_drawn(
     requires lawful { IsLawful layout.now }
     requires noted { IsNoted e.now }
     requires few { place < 2 ^ 41 }
-    requires room { at + 346000 ≤ length buf.old }
+    requires room { at + 400000 ≤ length buf.old }
     ensures text { take result buf.new ≡ take at buf.old ++
-        (opening layout.now view.now (kept_of board.old) place ++ event_shapes view.now (kept_of board.old) place e.now
+        (opening layout.now view.now (kept_of board.old) place ++ event_shapes (band_of layout.now view.now place) (kept_of board.old) place e.now
         ++ closing_after layout.now view.now (kept_of board.new) place) }
     ensures kept { kept_of board.new ≡ kept_after place e.now (kept_of board.old) }
-    ensures near { result ≤ at + 346000 }
+    ensures near { result ≤ at + 400000 }
 {
     let at = add_opening(buf, at, layout, view, board, place);
-    let at = add_event_shapes(buf, at, view, board, place, e);
+    let band = band_of(layout, view, place);
+    let at = add_event_shapes(buf, at, &band, board, place, e);
     board.note(place, e);
     add_closing_after(buf, at, layout, view, board, place)
 }
@@ -467,10 +453,10 @@ pub fn add_step(
     requires lawful { IsLawful layout.now }
     requires named { HasNames layout.now e.now }
     requires few { place < 2 ^ 41 }
-    requires room { at + 346000 ≤ length buf.old }
+    requires room { at + 400000 ≤ length buf.old }
     ensures text { take result buf.new ≡ take at buf.old ++ step_text layout.now view.now (kept_of board.old) place e.now }
     ensures kept { kept_of board.new ≡ kept_after place e.now (kept_of board.old) }
-    ensures near { result ≤ at + 346000 }
+    ensures near { result ≤ at + 400000 }
 {
     if is_in_view(view, place) {
         add_drawn(buf, at, layout, view, board, place, e)
@@ -484,17 +470,18 @@ pub fn add_step(
 fn add_failed_shapes(
     buf: &mut [u8],
     at: usize,
-    view: &View,
+    band: &Band,
     place: u64,
     e: &Event,
     why: Broken,
 ) -> usize
+    requires place { place < 2 ^ 42 }
     requires room { at + 1700 ≤ length buf.old }
-    ensures text { take result buf.new ≡ take at buf.old ++ (number_text view.now place ++ failed_text view.now place e.now why) }
+    ensures text { take result buf.new ≡ take at buf.old ++ (number_text band.now place ++ failed_text band.now place e.now why) }
     ensures near { result ≤ at + 1700 }
 {
-    let at = add_label(buf, at, view, place);
-    add_failed(buf, at, view, place, e, why)
+    let at = add_label(buf, at, band, place);
+    add_failed(buf, at, band, place, e, why)
 }
 
 /// Adds all that an event that fails adds.
@@ -511,15 +498,15 @@ pub fn add_failing(
 ) -> usize
     requires lawful { IsLawful layout.now }
     requires few { place < 2 ^ 41 }
-    requires room { at + 346000 ≤ length buf.old }
+    requires room { at + 400000 ≤ length buf.old }
     ensures text { take result buf.new ≡ take at buf.old ++ failing_text layout.now view.now (kept_of board.now) place e.now why }
-    ensures near { result ≤ at + 346000 }
+    ensures near { result ≤ at + 400000 }
 {
     if is_in_view(view, place) {
+        let band = band_of(layout, view, place);
         let at = add_opening(buf, at, layout, view, board, place);
-        let at = add_failed_shapes(buf, at, view, place, e, why);
-        let start = place - column_of(view, place);
-        add_closing(buf, at, layout, view, board, start, place + 1)
+        let at = add_failed_shapes(buf, at, &band, place, e, why);
+        add_closing(buf, at, layout, view, &band, board, place + 1)
     } else {
         at
     }

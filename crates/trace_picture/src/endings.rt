@@ -4,9 +4,9 @@ ghost use Rattle.std.specs.Io.KnownBytes.{Appends};
 ghost use Rattle.firefly_outside.specs.Causes.{HasCause, AppendsPrefix};
 ghost use Rattle.larch_actions.specs.Layout.{IsLawful};
 ghost use Rattle.trace_board.specs.Kept.{kept_of};
-ghost use Rattle.trace_shapes.specs.Places.{is_open, height_of};
+ghost use Rattle.trace_shapes.specs.Places.{is_open, band_of, height_of};
 ghost use Rattle.trace_shapes.specs.Shapes.{with_number, line_of, clause_word};
-ghost use Rattle.trace_picture.specs.Bands.{closing, band_start};
+ghost use Rattle.trace_picture.specs.Bands.{closing};
 ghost use Rattle.trace_picture.specs.Longest.{holds_text, holds_height};
 ghost use Rattle.trace_picture.specs.Overview.{over_height, over_style};
 ghost use Rattle.trace_picture.specs.Picture.{part_text, end_text, closing_if, ending, failed_note, failed_ending};
@@ -20,7 +20,7 @@ use trace_board::board::Board;
 use trace_core::add;
 use trace_shapes::shapes::word_of;
 use trace_shapes::tags::{add_line, add_with_number};
-use trace_shapes::view::{View, column_of, count_bands, is_band_open};
+use trace_shapes::view::{View, band_of, count_bands, is_band_open};
 
 // How high the picture is, but for its last line.
 fn height(layout: &Layout, view: &View, count: u64) -> u64
@@ -44,13 +44,13 @@ pub fn add_last_closing(
 ) -> usize
     requires lawful { IsLawful layout.now }
     requires few { count < 2 ^ 42 }
-    requires room { at + 290000 ≤ length buf.old }
+    requires room { at + 330000 ≤ length buf.old }
     ensures text { take result buf.new ≡ take at buf.old ++ closing_if layout.now view.now (kept_of board.now) count }
-    ensures near { result ≤ at + 290000 }
+    ensures near { result ≤ at + 330000 }
 {
     if is_band_open(view, count) {
-        let start = count - column_of(view, count);
-        add_closing(buf, at, layout, view, board, start, count)
+        let band = band_of(layout, view, count);
+        add_closing(buf, at, layout, view, &band, board, count)
     } else {
         at
     }
@@ -87,11 +87,11 @@ fn add_last_tags(
     requires low { low < 2 ^ 60 }
     requires room { at + 220 ≤ length buf.old }
     ensures text { take result buf.new ≡ take at buf.old ++ (with_number (codes "</g>\n<style>:root{height:")
-        (low + 24 + holds_height layout.now.mutexes + over_height layout.now view.now count)
+        (low + 28 + holds_height layout.now.mutexes + over_height layout.now view.now count)
         ++ over_style layout.now view.now count) }
     ensures near { result ≤ at + 220 }
 {
-    let whole = low + 24 + height_of_holds(layout) + height_of_overview(layout, view, count);
+    let whole = low + 28 + height_of_holds(layout) + height_of_overview(layout, view, count);
     let at = add_with_number(buf, at, b"</g>\n<style>:root{height:", whole);
     add_over_style(buf, at, layout, view, count)
 }
@@ -107,12 +107,12 @@ pub fn add_last_lines(
 ) -> usize
     requires lawful { IsLawful layout.now }
     requires few { count < 2 ^ 42 }
-    requires room { at + 17000 ≤ length buf.old }
+    requires room { at + 37000 ≤ length buf.old }
     ensures text { take result buf.new ≡ take at buf.old ++ (codes "</text>\n" ++ holds_text layout.now.mutexes (kept_of board.now) count
-        (height_of layout.now view.now count) ++ (with_number (codes "</g>\n<style>:root{height:") (height_of layout.now view.now count + 24
+        (height_of layout.now view.now count) ++ (with_number (codes "</g>\n<style>:root{height:") (height_of layout.now view.now count + 28
         + holds_height layout.now.mutexes + over_height layout.now view.now count)
         ++ over_style layout.now view.now count)) }
-    ensures near { result ≤ at + 17000 }
+    ensures near { result ≤ at + 37000 }
 {
     let low = height(layout, view, count);
     let at = add(buf, at, b"</text>\n");
@@ -150,10 +150,10 @@ pub fn add_end(
     requires lawful { IsLawful layout.now }
     requires few { count < 2 ^ 42 }
     requires short { length words.now ≤ 60 }
-    requires room { at + 17300 ≤ length buf.old }
+    requires room { at + 37300 ≤ length buf.old }
     ensures text { take result buf.new ≡ take at buf.old ++ end_text layout.now view.now (kept_of board.now) count
         (with_number words.now count) }
-    ensures near { result ≤ at + 17300 }
+    ensures near { result ≤ at + 37300 }
 {
     let at = add_note_place(buf, at, layout, view, count);
     let at = add(buf, at, b"'>");
@@ -175,9 +175,9 @@ pub fn add_ending(
     requires lawful { IsLawful layout.now }
     requires few { count < 2 ^ 42 }
     requires short { length words.now ≤ 60 }
-    requires room { at + 346000 ≤ length buf.old }
+    requires room { at + 370000 ≤ length buf.old }
     ensures text { take result buf.new ≡ take at buf.old ++ ending layout.now view.now (kept_of board.now) count words.now }
-    ensures near { result ≤ at + 346000 }
+    ensures near { result ≤ at + 370000 }
 {
     let at = add_last_closing(buf, at, layout, view, board, count);
     add_end(buf, at, layout, view, board, count, words)
@@ -210,10 +210,10 @@ fn add_failed_end(
 ) -> usize
     requires lawful { IsLawful layout.now }
     requires few { place < 2 ^ 41 }
-    requires room { at + 19000 ≤ length buf.old }
+    requires room { at + 39000 ≤ length buf.old }
     ensures text { take result buf.new ≡ take at buf.old ++ end_text layout.now view.now (kept_of board.now) (place + 1)
         (failed_note place e.now why) }
-    ensures near { result ≤ at + 19000 }
+    ensures near { result ≤ at + 39000 }
 {
     let at = add_note_place(buf, at, layout, view, place + 1);
     let at = add(buf, at, b"'>");
@@ -235,9 +235,9 @@ pub fn add_failed_ending(
 ) -> usize
     requires lawful { IsLawful layout.now }
     requires few { place < 2 ^ 41 }
-    requires room { at + 370000 ≤ length buf.old }
+    requires room { at + 440000 ≤ length buf.old }
     ensures text { take result buf.new ≡ take at buf.old ++ failed_ending layout.now view.now (kept_of board.now) place e.now why }
-    ensures near { result ≤ at + 370000 }
+    ensures near { result ≤ at + 440000 }
 {
     let at = add_failing(buf, at, layout, view, board, place, e, why);
     add_failed_end(buf, at, layout, view, board, place, e, why)
@@ -257,7 +257,7 @@ pub fn end_with<O: Sink>(
     requires lawful { IsLawful layout.now }
     requires few { count < 2 ^ 42 }
     requires short { length words.now ≤ 60 }
-    requires room { at + 346000 ≤ length buf.old }
+    requires room { at + 370000 ≤ length buf.old }
     ensures ok { OnOk result (Appends (O.held out.old) (O.held out.new)
         (take at buf.old ++ ending layout.now view.now (kept_of board.now) count words.now)) }
     ensures err { OnErr result (AppendsPrefix (O.held out.old) (O.held out.new)
@@ -282,7 +282,7 @@ pub fn end_failed<O: Sink>(
 ) -> Result<(), SinkFault>
     requires lawful { IsLawful layout.now }
     requires few { place < 2 ^ 41 }
-    requires room { at + 370000 ≤ length buf.old }
+    requires room { at + 440000 ≤ length buf.old }
     ensures ok { OnOk result (Appends (O.held out.old) (O.held out.new)
         (take at buf.old ++ failed_ending layout.now view.now (kept_of board.now) place e.now why)) }
     ensures err { OnErr result (AppendsPrefix (O.held out.old) (O.held out.new)

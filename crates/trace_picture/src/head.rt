@@ -1,14 +1,12 @@
 //! The head of a picture: the first tag, the colours, and what each mark and colour means.
-ghost use Rattle.std.specs.Prelude.{◌≡◌, ◌+◌, ◌*◌, ◌≤◌, ◌++◌, length, take, codes};
-ghost use Rattle.larch_actions.specs.Layout.{IsLawful};
-ghost use Rattle.trace_shapes.specs.Shapes.{each_below, painted_text};
+ghost use Rattle.std.specs.Prelude.{◌≡◌, ◌+◌, ◌≤◌, ◌++◌, length, take, codes};
+ghost use Rattle.trace_shapes.specs.Shapes.{each_below};
 ghost use Rattle.trace_shapes.specs.Legend.{entry_at, life_legend};
-ghost use Rattle.trace_picture.specs.Picture.{style_text, pattern_text, other_words, over_words, head_text};
+ghost use Rattle.trace_picture.specs.Picture.{style_text, pattern_text, other_words, many_style, many_if, over_words, head_text};
 
 use larch_actions::Layout;
 use trace_core::add;
 use trace_shapes::legend::{add_entries, add_life_legend};
-use trace_shapes::shapes::add_painted;
 
 // Adds the first tag and the colours.
 #[tactic(auto, unfolding(crate::specs::Picture::style_text))]
@@ -20,22 +18,22 @@ fn add_style(buf: &mut [u8], at: usize) -> usize
     let at = add(
         buf,
         at,
-        b"<svg xmlns='http://www.w3.org/2000/svg' width='1252' font-family='sans-serif' font-size='11'>\n<title>Firefly Threads timeline</title>\n<style>\n",
+        b"<svg xmlns='http://www.w3.org/2000/svg' width='1252' font-family='Helvetica,Arial,sans-serif' font-size='11'>\n<title>Firefly Threads timeline</title>\n<style>\n",
     );
     let at = add(
         buf,
         at,
-        b"text{fill:#222}.n{fill:#555;font-size:10px;text-anchor:middle}.s,.d{font-size:7px}.s{text-anchor:middle}.d{paint-order:stroke;stroke:#fff;stroke-width:2px}.r{fill:#f4f4f4}.i{text-anchor:middle;font-weight:bold;font-size:10px}\n",
+        b"text{fill:#1f2328}.r{fill:#f3f4f6}.z{fill:#fff}.l{stroke:#d8dbe0}.n{fill:#6e7781;font-size:10px;text-anchor:middle}.y,.i{font-weight:bold}.i{text-anchor:middle}.s1,.x,.d{font-size:10px}.s2{font-size:9px;text-anchor:end}.s3{font-size:8px;text-anchor:end}.d{paint-order:stroke;stroke:#fff;stroke-width:3px}\n",
     );
     let at = add(
         buf,
         at,
-        b".m0{fill:#e69f00}.m1{fill:#0072b2}.m2{fill:#f0e442}.m3{fill:#009e73}.m4{fill:#cc79a7}.m5{fill:#56b4e9}.m6{fill:#d55e00}\n",
+        b".m0{fill:#e69f00}.m1{fill:#0072b2}.m2{fill:#f0e442}.m3{fill:#009e73}.m4{fill:#cc79a7}.m5{fill:#56b4e9}.m6{fill:#d55e00}.m1+.x{fill:#fff}\n",
     );
     add(
         buf,
         at,
-        b".h{fill:url(#h);stroke:#444;stroke-width:.5}.o{fill:#fff;stroke:#222}.k{fill:#ddd;stroke:#222}.g{fill:#ffe08a;stroke:#222}\n",
+        b".h{fill:url(#h);stroke:#8c959f;stroke-width:.6}.o{fill:#fff}.k{fill:#d8dee4}.g{fill:#ffd866}.b{fill:#b6dcf5}.v{fill:#ffb8a3}.j{fill:#bfe3c3}.o,.k,.g,.b,.v,.j{stroke:#57606a;stroke-width:.8}\n",
     )
 }
 
@@ -49,22 +47,22 @@ fn add_pattern(buf: &mut [u8], at: usize) -> usize
     let at = add(
         buf,
         at,
-        b".u{display:none}.e{fill:#fff;stroke:#222;stroke-width:.6;stroke-dasharray:3 1}.b{fill:#bfe0f5;stroke:#222}.v{fill:#f5b8a0;stroke:#222}.f{fill:#222}.f+.i{fill:#fff}.o,.k,.g,.b,.v{stroke-width:.7}.a{fill:none;stroke:#a02c6b;stroke-width:1.2;marker-end:url(#a)}.l{fill:none;stroke:#888;stroke-width:.8}\n</style>\n",
+        b".u{display:none}.e{fill:#fff;stroke:#57606a;stroke-dasharray:3 2}.f{fill:#1f2328}.f+.i{fill:#fff}.a{fill:none;stroke:#a02c6b;stroke-width:1.6;marker-end:url(#a)}.c{fill:none;stroke:#cf222e;stroke-width:3}\n</style>\n",
     );
     let at = add(
         buf,
         at,
-        b"<defs><pattern id='h' width='5' height='5' patternUnits='userSpaceOnUse' patternTransform='rotate(45)'><rect width='5' height='5' fill='#fff'/><rect width='2' height='5' fill='#777'/></pattern>\n",
+        b"<defs><pattern id='h' width='5' height='5' patternUnits='userSpaceOnUse' patternTransform='rotate(45)'><rect width='5' height='5' fill='#fff'/><rect width='2' height='5' fill='#b4bcc5'/></pattern>\n",
     );
     let at = add(
         buf,
         at,
-        b"<path id='q1' d='M3 0h2v8h-2z' fill='#fff'/><path id='q2' d='M3 0h2v8h-2z' fill='#000'/><path id='q3' d='M1 0h1v8h-1zM5 0h1v8h-1z' fill='#fff'/><path id='q4' d='M1 0h1v8h-1zM5 0h1v8h-1z' fill='#000'/><path id='q5' d='M0 0h4v8h-4z' fill='#fff'/><path id='q6' d='M0 0h4v8h-4z' fill='#000'/><g id='q7'><path d='M1 0h2v8h-2z' fill='#fff'/><path d='M5 0h2v8h-2z'/></g><g id='q8'><path d='M1 0h3v8h-3z' fill='#fff'/><path d='M4 0h1v8h-1z'/></g><g id='q9'><path d='M1 0h3v8h-3z'/><path d='M4 0h1v8h-1z' fill='#fff'/></g>\n<marker id='a' viewBox='0 0 6 6' refX='6' refY='3' markerWidth='6' markerHeight='6' orient='auto'><path d='M0 0L6 3L0 6z' fill='#a02c6b'/></marker></defs>\n",
+        b"<marker id='a' viewBox='0 0 6 6' refX='5' refY='3' markerWidth='7' markerHeight='7' markerUnits='userSpaceOnUse' orient='auto'><path d='M0 0L6 3L0 6z' fill='#a02c6b'/></marker></defs>\n",
     );
     add(buf, at, b"<rect width='100%' height='100%' fill='#fff'/>\n")
 }
 
-// Adds what is no mark: a wait, the bars and the arrows.
+// Adds what is no mark: the arrows, the bars and a wait.
 #[tactic(auto, unfolding(crate::specs::Picture::other_words))]
 fn add_other_words(buf: &mut [u8], at: usize) -> usize
     requires { at + 1000 ≤ length buf.old }
@@ -74,33 +72,47 @@ fn add_other_words(buf: &mut [u8], at: usize) -> usize
     let at = add(
         buf,
         at,
-        b"<rect class='h' x='44' y='57' width='22' height='7'/><text x='71' y='64'>waits in a condition, with its number</text><text x='294' y='64'>coloured, from m7 on striped: holds a mutex</text><text x='594' y='64'>below a mark: the number of its mutex, semaphore, condition or thread</text><rect class='e' x='1044' y='59' width='22' height='3'/><text x='1071' y='64'>a semaphore is taken</text>\n",
+        b"<path class='a' d='M844 50H876'/><text x='883' y='54'>lets another thread go on</text><rect class='e' x='1044' y='44' width='34' height='12' rx='2'/><text class='x' x='1048' y='54'>s0</text><text x='1083' y='54'>semaphore s0 is taken</text>\n",
     );
     add(
         buf,
         at,
-        b"<path class='a' d='M844 43H866'/><text x='871' y='47'>lets another thread go on</text><path class='l' d='M1044 43H1066'/><text x='1071' y='47'>hands a mutex on</text>\n",
+        b"<rect class='m0' x='44' y='62' width='34' height='12' rx='2'/><text class='x' x='48' y='72'>m0</text><text x='83' y='72'>holds mutex m0</text><rect class='h' x='244' y='63' width='34' height='9'/><text class='d' x='248' y='71'>c0</text><text x='283' y='72'>waits in condition c0</text><text x='444' y='72'>beside a letter: the number of its condition, semaphore or thread</text>\n",
     )
 }
 
-// Adds the colours of the mutexes.
-fn add_swatches(buf: &mut [u8], at: usize, mutexes: u32) -> usize
-    requires room { at + 600 * mutexes ≤ length buf.old }
-    ensures text { take result buf.new ≡ take at buf.old ++ each_below painted_text mutexes }
-    ensures near { result ≤ at + 600 * mutexes }
+// Adds the looks of the mutexes from the eighth on.
+#[tactic(auto, unfolding(crate::specs::Picture::many_style))]
+fn add_many(buf: &mut [u8], at: usize) -> usize
+    requires { at + 2600 ≤ length buf.old }
+    ensures text { take result buf.new ≡ take at buf.old ++ many_style }
+    ensures near { result ≤ at + 2600 }
 {
-    let mut last = at;
-    for m in 0..mutexes {
-        last = add_painted(buf, last, m);
+    add(
+        buf,
+        at,
+        b"<style>\n.m7,.m14,.m21,.m28,.m35,.m42,.m49,.m56,.m63{fill:#f7dca6;stroke:#e69f00;stroke-width:1.5}.m8,.m15,.m22,.m29,.m36,.m43,.m50,.m57{fill:#a6cbe6;stroke:#0072b2;stroke-width:1.5}.m9,.m16,.m23,.m30,.m37,.m44,.m51,.m58{fill:#faf5b8;stroke:#f0e442;stroke-width:1.5}.m10,.m17,.m24,.m31,.m38,.m45,.m52,.m59{fill:#a6dccb;stroke:#009e73;stroke-width:1.5}.m11,.m18,.m25,.m32,.m39,.m46,.m53,.m60{fill:#edcfde;stroke:#cc79a7;stroke-width:1.5}.m12,.m19,.m26,.m33,.m40,.m47,.m54,.m61{fill:#cbe6f8;stroke:#56b4e9;stroke-width:1.5}.m13,.m20,.m27,.m34,.m41,.m48,.m55,.m62{fill:#f3c3a6;stroke:#d55e00;stroke-width:1.5}\n.m14,.m15,.m16,.m17,.m18,.m19,.m20{stroke-dasharray:7 3}.m21,.m22,.m23,.m24,.m25,.m26,.m27{stroke-dasharray:2 2}.m28,.m29,.m30,.m31,.m32,.m33,.m34{stroke-dasharray:12 2}.m35,.m36,.m37,.m38,.m39,.m40,.m41{stroke-dasharray:7 2 2 2}.m42,.m43,.m44,.m45,.m46,.m47,.m48{stroke-dasharray:4 4}.m49,.m50,.m51,.m52,.m53,.m54,.m55{stroke-dasharray:1 3}.m56,.m57,.m58,.m59,.m60,.m61,.m62{stroke-dasharray:12 2 2 2}.m63{stroke-dasharray:3 1}\n</style>\n",
+    )
+}
+
+// The same, where there are so many.
+fn add_many_if(buf: &mut [u8], at: usize, mutexes: u32) -> usize
+    requires { at + 2600 ≤ length buf.old }
+    ensures text { take result buf.new ≡ take at buf.old ++ many_if mutexes }
+    ensures near { result ≤ at + 2600 }
+{
+    if 7 < mutexes {
+        add_many(buf, at)
+    } else {
+        at
     }
-    last
 }
 
 // Adds the legend.
 fn add_legend(buf: &mut [u8], at: usize) -> usize
-    requires { at + 6000 ≤ length buf.old }
+    requires { at + 7100 ≤ length buf.old }
     ensures text { take result buf.new ≡ take at buf.old ++ (each_below entry_at 16 ++ other_words) }
-    ensures near { result ≤ at + 6000 }
+    ensures near { result ≤ at + 7100 }
 {
     let at = add_entries(buf, at);
     add_other_words(buf, at)
@@ -116,22 +128,21 @@ fn add_over_words(buf: &mut [u8], at: usize) -> usize
     add(
         buf,
         at,
-        b"<g class='w'>\n<text class='u' x='44' y='-4'>Overview: a column for a hundred events, with the threads that had one and below them the mutexes that were held; it links to its band</text>\n",
+        b"<g class='w'>\n<text class='u' x='44' y='-4'>Overview: a column for fifty events, with the threads that had one and below them the mutexes that were held; it links to its band</text>\n",
     )
 }
 
 /// Adds the head.
 #[tactic(auto, unfolding(crate::specs::Picture::head_text))]
 pub fn add_head(buf: &mut [u8], at: usize, layout: &Layout) -> usize
-    requires lawful { IsLawful layout.now }
-    requires room { at + 52000 ≤ length buf.old }
+    requires room { at + 20000 ≤ length buf.old }
     ensures text { take result buf.new ≡ take at buf.old ++ head_text layout.now }
-    ensures near { result ≤ at + 52000 }
+    ensures near { result ≤ at + 20000 }
 {
     let at = add_style(buf, at);
     let at = add_pattern(buf, at);
     let at = add_legend(buf, at);
-    let at = add_swatches(buf, at, layout.mutexes);
+    let at = add_many_if(buf, at, layout.mutexes);
     let at = add_over_words(buf, at);
     add_life_legend(buf, at, layout.version)
 }

@@ -2,17 +2,20 @@
 ghost use Rattle.std.specs.Prelude.{◌≡◌, ◌+◌, ◌-◌, ◌*◌, ◌<◌, ◌≤◌, ◌^◌, ◌++◌, length, take, codes};
 ghost use Rattle.trace_board.specs.Kept.{kept_of, forked_by};
 ghost use Rattle.trace_board.specs.Laws.{is_live};
+ghost use Rattle.larch_actions.specs.Layout.{IsLawful};
+ghost use Rattle.trace_shapes.specs.Arrows.{link};
 ghost use Rattle.trace_shapes.specs.Shapes.{each_below};
-ghost use Rattle.trace_picture.specs.Lives.{has_row, row_if, row_from, row_until, life_row, birth_words, birth_text, birth_if, births};
+ghost use Rattle.trace_picture.specs.Lives.{has_row, row_if, row_box, row_from, row_until, life_row, birth_words, birth_text, birth_if, births};
 
-use larch_actions::{Life, ThreadId, Version};
+use larch_actions::{Layout, Life, Version};
 use trace_board::board::Board;
 use trace_board::history::{Effect, Origin};
 use trace_core::add;
-use trace_shapes::arrows::{add_bow, add_origin, x_from, y_from};
-use trace_shapes::shapes::{add_row, x_of, y_of};
+use trace_shapes::arrows::{add_bow, add_origin, head_of, x_from, y_from};
+use trace_shapes::geometry::{COLUMN, ROW_RIGHT};
+use trace_shapes::shapes::{add_row, add_row_name, event_x, row_height, row_y};
 use trace_shapes::tags::{add_place, add_with_number};
-use trace_shapes::view::{View, column_of};
+use trace_shapes::view::{Band, Link};
 
 // Whether this is the life of one that lives.
 fn lives(life: Life) -> bool
@@ -37,79 +40,82 @@ fn stands(version: Version, board: &Board, t: u32) -> bool
 }
 
 // Adds the row of the thread, where it has one.
-fn add_row_if(buf: &mut [u8], at: usize, version: Version, board: &Board, t: u32) -> usize
+fn add_row_if(buf: &mut [u8], at: usize, layout: &Layout, band: &Band, board: &Board, t: u32) -> usize
     requires few { t < 256 }
-    requires room { at + 200 ≤ length buf.old }
-    ensures text { take result buf.new ≡ take at buf.old ++ row_if version (kept_of board.now) t }
-    ensures near { result ≤ at + 200 }
+    requires room { at + 250 ≤ length buf.old }
+    ensures text { take result buf.new ≡ take at buf.old ++ row_if layout.now.version band.now (kept_of board.now) t }
+    ensures near { result ≤ at + 250 }
 {
-    if stands(version, board, t) {
-        add_row(buf, at, t)
+    if stands(layout.version, board, t) {
+        add_row(buf, at, band, t)
     } else {
         at
     }
 }
 
 /// Adds the rows of all threads that have one.
-pub fn add_rows(buf: &mut [u8], at: usize, version: Version, board: &Board, threads: u32) -> usize
-    requires few { threads ≤ 256 }
-    requires room { at + 200 * threads ≤ length buf.old }
-    ensures text { take result buf.new ≡ take at buf.old ++ each_below (row_if version (kept_of board.now)) threads }
-    ensures near { result ≤ at + 200 * threads }
+#[tactic(auto, using(larch_actions::proofs::Names::few_threads))]
+pub fn add_rows(buf: &mut [u8], at: usize, layout: &Layout, band: &Band, board: &Board) -> usize
+    requires lawful { IsLawful layout.now }
+    requires room { at + 64000 ≤ length buf.old }
+    ensures text { take result buf.new ≡ take at buf.old ++ each_below (row_if layout.now.version band.now (kept_of board.now)) layout.now.threads }
+    ensures near { result ≤ at + 64000 }
 {
     let mut last = at;
-    for t in 0..threads {
-        last = add_row_if(buf, last, version, board, t);
+    for t in 0..layout.threads {
+        last = add_row_if(buf, last, layout, band, board, t);
     }
     last
 }
 
+// Adds the box of a row from this point on.
+#[tactic(auto, unfolding(crate::specs::Lives::row_box))]
+fn add_row_box(buf: &mut [u8], at: usize, band: &Band, x: u64, t: u32) -> usize
+    requires { at + 130 ≤ length buf.old }
+    ensures text { take result buf.new ≡ take at buf.old ++ row_box band.now x t }
+    ensures near { result ≤ at + 130 }
+{
+    let height = row_height(band.lanes);
+    let at = add_with_number(buf, at, b"' height='", height);
+    let at = add_with_number(buf, at, b"' width='", ROW_RIGHT.saturating_sub(x));
+    add_place(buf, at, x, row_y(band, t))
+}
+
 // Adds the row of a thread from this point on.
 #[tactic(auto, unfolding(crate::specs::Lives::row_from))]
-fn add_row_from(buf: &mut [u8], at: usize, x: u64, t: u32) -> usize
-    requires { at + 250 ≤ length buf.old }
-    ensures text { take result buf.new ≡ take at buf.old ++ row_from x t }
-    ensures near { result ≤ at + 250 }
+fn add_row_from(buf: &mut [u8], at: usize, band: &Band, x: u64, t: u32) -> usize
+    requires { at + 300 ≤ length buf.old }
+    ensures text { take result buf.new ≡ take at buf.old ++ row_from band.now x t }
+    ensures near { result ≤ at + 300 }
 {
-    let at = add_with_number(
-        buf,
-        at,
-        b"<rect class='r' height='32' width='",
-        1248_u64.saturating_sub(x),
-    );
-    let at = add_place(buf, at, x, y_of(t));
-    let at = add_with_number(buf, at, b"'/><text x='6' y='", 20 + y_of(t));
-    let at = add_with_number(buf, at, b"'>t", u64::from(t));
-    add(buf, at, b"</text>\n")
+    let at = add(buf, at, b"<rect class='r");
+    let at = add_row_box(buf, at, band, x, t);
+    add_row_name(buf, at, band, t)
 }
 
 // Adds what is no more of the row of a thread, from this point on.
 #[tactic(auto, unfolding(crate::specs::Lives::row_until))]
-fn add_row_until(buf: &mut [u8], at: usize, x: u64, t: u32) -> usize
-    requires { at + 250 ≤ length buf.old }
-    ensures text { take result buf.new ≡ take at buf.old ++ row_until x t }
-    ensures near { result ≤ at + 250 }
+fn add_row_until(buf: &mut [u8], at: usize, band: &Band, x: u64, t: u32) -> usize
+    requires { at + 300 ≤ length buf.old }
+    ensures text { take result buf.new ≡ take at buf.old ++ row_until band.now x t }
+    ensures near { result ≤ at + 300 }
 {
-    let at = add_with_number(
-        buf,
-        at,
-        b"<rect class='z' height='32' width='",
-        1248_u64.saturating_sub(x),
-    );
-    let at = add_place(buf, at, x, y_of(t));
+    let at = add(buf, at, b"<rect class='z");
+    let at = add_row_box(buf, at, band, x, t);
     let at = add_with_number(buf, at, b"'><title>t", u64::from(t));
     add(buf, at, b" has ended</title></rect>\n")
 }
 
-/// Adds what an event does to a row.
-pub fn add_life_row(buf: &mut [u8], at: usize, view: &View, place: u64, effect: Effect) -> usize
-    requires { at + 250 ≤ length buf.old }
-    ensures text { take result buf.new ≡ take at buf.old ++ life_row view.now place effect }
-    ensures near { result ≤ at + 250 }
+/// Adds what the event does to a row.
+pub fn add_life_row(buf: &mut [u8], at: usize, band: &Band, place: u64, effect: Effect) -> usize
+    requires place { place < 2 ^ 42 }
+    requires room { at + 300 ≤ length buf.old }
+    ensures text { take result buf.new ≡ take at buf.old ++ life_row band.now place effect }
+    ensures near { result ≤ at + 300 }
 {
     match effect {
-        Effect::Begins(t) => add_row_from(buf, at, x_of(column_of(view, place)), t),
-        Effect::Ends(t) => add_row_until(buf, at, x_of(column_of(view, place)) + 12, t),
+        Effect::Begins(t) => add_row_from(buf, at, band, event_x(band, place), t),
+        Effect::Ends(t) => add_row_until(buf, at, band, event_x(band, place) + COLUMN, t),
         Effect::Stays => at,
     }
 }
@@ -128,29 +134,42 @@ fn add_birth_words(buf: &mut [u8], at: usize, t: u32, o: &Origin) -> usize
 
 // Adds the arrow from the fork to where the row of the thread begins.
 #[tactic(auto, unfolding(crate::specs::Lives::birth_text))]
-fn add_birth(buf: &mut [u8], at: usize, start: u64, to: u64, t: u32, o: &Origin) -> usize
+fn add_birth(buf: &mut [u8], at: usize, link: &Link) -> usize
     requires room { at + 350 ≤ length buf.old }
-    requires place { to < 2 ^ 42 }
-    ensures text { take result buf.new ≡ take at buf.old ++ birth_text start to t o.now }
+    requires place { link.now.place < 2 ^ 42 }
+    ensures text { take result buf.new ≡ take at buf.old ++ birth_text link.now }
     ensures near { result ≤ at + 350 }
 {
-    let x = x_from(start, to, o);
-    let y = y_from(start, ThreadId(t), o);
-    let at = add_bow(buf, at, x, y, x + 6, y_of(t) + 6);
-    add_birth_words(buf, at, t, o)
+    let x = x_from(link);
+    let y = y_from(link);
+    let at = add_bow(buf, at, x, y, x + 6, head_of(link));
+    add_birth_words(buf, at, link.to, &link.from)
 }
 
 // Adds that arrow, where the fork is in the band.
-fn add_birth_if(buf: &mut [u8], at: usize, start: u64, to: u64, t: u32, o: Option<Origin>) -> usize
+fn add_birth_if(
+    buf: &mut [u8],
+    at: usize,
+    band: &Band,
+    to: u64,
+    t: u32,
+    o: Option<Origin>,
+) -> usize
     requires room { at + 350 ≤ length buf.old }
     requires place { to < 2 ^ 42 }
-    ensures text { take result buf.new ≡ take at buf.old ++ birth_if start to t o }
+    ensures text { take result buf.new ≡ take at buf.old ++ birth_if band.now to t o }
     ensures near { result ≤ at + 350 }
 {
     match o {
-        Some(o) => {
-            if start <= o.place {
-                add_birth(buf, at, start, to, t, &o)
+        Some(from) => {
+            if band.start <= from.place {
+                let link = Link {
+                    band: *band,
+                    place: to,
+                    to: t,
+                    from,
+                };
+                add_birth(buf, at, &link)
             } else {
                 at
             }
@@ -163,8 +182,8 @@ fn add_birth_if(buf: &mut [u8], at: usize, start: u64, to: u64, t: u32, o: Optio
 fn add_each_birth(
     buf: &mut [u8],
     at: usize,
+    band: &Band,
     board: &Board,
-    start: u64,
     to: u64,
     threads: u32,
 ) -> usize
@@ -172,34 +191,34 @@ fn add_each_birth(
     requires place { to < 2 ^ 42 }
     requires room { at + 350 * threads ≤ length buf.old }
     ensures text { take result buf.new
-        ≡ take at buf.old ++ each_below (λ t. birth_if start to t (forked_by (kept_of board.now) t)) threads }
+        ≡ take at buf.old ++ each_below (λ t. birth_if band.now to t (forked_by (kept_of board.now) t)) threads }
     ensures near { result ≤ at + 350 * threads }
 {
     let mut last = at;
     for t in 0..threads {
-        last = add_birth_if(buf, last, start, to, t, board.forked_by(t));
+        last = add_birth_if(buf, last, band, to, t, board.forked_by(t));
     }
     last
 }
 
 /// Adds the arrows to the rows of threads that have had no event, in the version that has forks.
+#[tactic(auto, using(larch_actions::proofs::Names::few_threads))]
 pub fn add_births(
     buf: &mut [u8],
     at: usize,
-    version: Version,
+    layout: &Layout,
+    band: &Band,
     board: &Board,
-    start: u64,
     to: u64,
-    threads: u32,
 ) -> usize
-    requires few { threads ≤ 256 }
+    requires lawful { IsLawful layout.now }
     requires place { to < 2 ^ 42 }
-    requires room { at + 350 * threads ≤ length buf.old }
-    ensures text { take result buf.new ≡ take at buf.old ++ births version (kept_of board.now) start to threads }
-    ensures near { result ≤ at + 350 * threads }
+    requires room { at + 90000 ≤ length buf.old }
+    ensures text { take result buf.new ≡ take at buf.old ++ births layout.now.version band.now (kept_of board.now) to layout.now.threads }
+    ensures near { result ≤ at + 90000 }
 {
-    match version {
+    match layout.version {
         Version::One => at,
-        Version::Two => add_each_birth(buf, at, board, start, to, threads),
+        Version::Two => add_each_birth(buf, at, band, board, to, layout.threads),
     }
 }

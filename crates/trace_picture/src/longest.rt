@@ -3,12 +3,13 @@ ghost use Rattle.std.specs.Prelude.{◌≡◌, ◌+◌, ◌*◌, ◌/◌, ◌%�
 ghost use Rattle.larch_actions.specs.Layout.{IsLawful};
 ghost use Rattle.trace_board.specs.Kept.{kept_of, longest_in};
 ghost use Rattle.trace_shapes.specs.Shapes.{with_number, each_below, place_text};
-ghost use Rattle.trace_picture.specs.Longest.{hold_end, hold_text, told_hold, line_place, hold_line, holds_text, holds_height};
+ghost use Rattle.trace_picture.specs.Longest.{hold_end, hold_text, told_hold, line_x, line_y, sample_text, hold_line, holds_text, holds_height};
 
 use larch_actions::Layout;
 use trace_board::board::Board;
 use trace_board::holds::{Hold, hold_to, longer};
 use trace_core::add;
+use trace_shapes::geometry::{LEFT, LINE, NAME_LEFT, NAME_LINE};
 use trace_shapes::tags::{add_place, add_with_number};
 
 // Adds where a hold ended.
@@ -35,11 +36,11 @@ fn add_hold(buf: &mut [u8], at: usize, hold: &Hold) -> usize
     let at = add_with_number(
         buf,
         at,
-        b" longest held by t",
+        b"longest: t",
         u64::from(hold.since.thread.0),
     );
     let at = add_with_number(buf, at, b", events: ", hold.length());
-    let at = add_with_number(buf, at, b", from ", hold.since.place);
+    let at = add_with_number(buf, at, b", ", hold.since.place);
     add_hold_end(buf, at, hold)
 }
 
@@ -51,21 +52,72 @@ fn add_told(buf: &mut [u8], at: usize, hold: Option<Hold>) -> usize
 {
     match hold {
         Some(hold) => add_hold(buf, at, &hold),
-        None => add(buf, at, b" never held"),
+        None => add(buf, at, b"never held"),
     }
 }
 
-// Adds the place of the line of a mutex.
-#[tactic(auto, unfolding(crate::specs::Longest::line_place))]
-fn add_line_place(buf: &mut [u8], at: usize, low: u64, m: u64) -> usize
+// Where the line of a mutex stands.
+fn line_x(m: u32) -> u64
+    requires { m < 64 }
+    ensures x { result ≡ line_x m }
+    ensures small { result < 2 ^ 20 }
+{
+    LEFT + 400 * (u64::from(m) % 3)
+}
+
+fn line_y(low: u64, m: u32) -> u64
     requires low { low < 2 ^ 60 }
     requires few { m < 64 }
-    requires room { at + 80 ≤ length buf.old }
-    ensures text { take result buf.new ≡ take at buf.old ++ line_place low m }
-    ensures near { result ≤ at + 80 }
+    ensures y { result ≡ line_y low m }
+    ensures small { result < 2 ^ 61 }
 {
-    let at = add(buf, at, b"<text class='t");
-    add_place(buf, at, 44 + 400 * (m % 3), low + 30 + 14 * (m / 3))
+    low + 22 + LINE * (u64::from(m) / 3)
+}
+
+// Adds the place of a text and the start of its tag.
+fn add_text_place(buf: &mut [u8], at: usize, start: &[u8], x: u64, y: u64) -> usize
+    requires short { length start.now ≤ 30 }
+    requires room { at + 90 ≤ length buf.old }
+    ensures text { take result buf.new ≡ take at buf.old ++ (start.now ++ place_text x y) }
+    ensures near { result ≤ at + 90 }
+{
+    let at = add(buf, at, start);
+    add_place(buf, at, x, y)
+}
+
+// Adds a bar of the mutex, as it looks.
+#[tactic(auto, unfolding(crate::specs::Longest::sample_text))]
+fn add_sample(buf: &mut [u8], at: usize, low: u64, mutex: u32) -> usize
+    requires low { low < 2 ^ 60 }
+    requires few { mutex < 64 }
+    requires room { at + 270 ≤ length buf.old }
+    ensures text { take result buf.new ≡ take at buf.old ++ sample_text low mutex }
+    ensures near { result ≤ at + 270 }
+{
+    let m = u64::from(mutex);
+    let x = line_x(mutex);
+    let y = line_y(low, mutex);
+    let at = add_with_number(buf, at, b"<rect width='34' height='12' rx='2' class='m", m);
+    let at = add_place(buf, at, x, y);
+    let at = add_text_place(
+        buf,
+        at,
+        b"'/><text class='x",
+        x + NAME_LEFT,
+        y + NAME_LINE,
+    );
+    let at = add_with_number(buf, at, b"'>m", m);
+    add(buf, at, b"</text>")
+}
+
+// Adds the name of a mutex as a title.
+fn add_name_title(buf: &mut [u8], at: usize, mutex: u32) -> usize
+    requires { at + 50 ≤ length buf.old }
+    ensures text { take result buf.new ≡ take at buf.old ++ (with_number (codes "'><title>m") mutex ++ codes "</title>") }
+    ensures near { result ≤ at + 50 }
+{
+    let at = add_with_number(buf, at, b"'><title>m", u64::from(mutex));
+    add(buf, at, b"</title>")
 }
 
 // Adds the line of a mutex.
@@ -73,13 +125,15 @@ fn add_line_place(buf: &mut [u8], at: usize, low: u64, m: u64) -> usize
 fn add_hold_line(buf: &mut [u8], at: usize, low: u64, mutex: u32, hold: Option<Hold>) -> usize
     requires low { low < 2 ^ 60 }
     requires few { mutex < 64 }
-    requires room { at + 260 ≤ length buf.old }
+    requires room { at + 560 ≤ length buf.old }
     ensures text { take result buf.new ≡ take at buf.old ++ hold_line low mutex hold }
-    ensures near { result ≤ at + 260 }
+    ensures near { result ≤ at + 560 }
 {
-    let m = u64::from(mutex);
-    let at = add_line_place(buf, at, low, m);
-    let at = add_with_number(buf, at, b"'>m", m);
+    let x = line_x(mutex) + 40;
+    let y = line_y(low, mutex) + NAME_LINE;
+    let at = add_sample(buf, at, low, mutex);
+    let at = add_text_place(buf, at, b"<text class='t", x, y);
+    let at = add_name_title(buf, at, mutex);
     let at = add_told(buf, at, hold);
     add(buf, at, b"</text>\n")
 }
@@ -106,9 +160,9 @@ pub fn add_holds(
 ) -> usize
     requires low { low < 2 ^ 60 }
     requires few { mutexes ≤ 64 }
-    requires room { at + 260 * mutexes ≤ length buf.old }
+    requires room { at + 560 * mutexes ≤ length buf.old }
     ensures text { take result buf.new ≡ take at buf.old ++ holds_text mutexes (kept_of board.now) count low }
-    ensures near { result ≤ at + 260 * mutexes }
+    ensures near { result ≤ at + 560 * mutexes }
 {
     let mut last = at;
     for m in 0..mutexes {
@@ -123,5 +177,5 @@ pub fn height_of_holds(layout: &Layout) -> u64
     ensures height { result ≡ holds_height layout.now.mutexes }
     ensures small { result < 2 ^ 20 }
 {
-    (u64::from(layout.mutexes) + 2) / 3 * 14
+    (u64::from(layout.mutexes) + 2) / 3 * LINE
 }

@@ -178,7 +178,7 @@ pub fn add_over_style(buf: &mut [u8], at: usize, layout: &Layout, view: &View, c
         let at = add_with_number(
             buf,
             at,
-            b"px)}.u{display:inline;transform:translate(0,calc(136px - ",
+            b"px)}.u{display:inline;transform:translate(0,calc(112px - ",
             height,
         );
         add(buf, at, b"px))}</style>\n</svg>\n")

@@ -9,18 +9,19 @@ ghost use Rattle.larch_actions.specs.Actions.{Spec, Acts};
 ghost use Rattle.lock_order.specs.declared.answer.Nested.{Nested};
 ghost use Rattle.lock_order.specs.Kept.{HasPlace, IsKept};
 ghost use Rattle.trace_board.specs.Kept.{kept_of};
+ghost use Rattle.trace_shapes.specs.Places.{band_of};
 ghost use Rattle.trace_picture.specs.Rings.{ring_y, ring_text, ring_if, rings_text, ringed_ending, ShowsOrdered, IsEnding, AreNoted, Sends};
 
-use crate::bands::top_of;
+use crate::bands::{number_of, top_of};
 use crate::endings::{add_end, add_last_closing, end_with};
 use firefly_outside::{Sink, SinkFault, put_all};
 use larch_actions::{Event, Layout};
 use lock_order::{Cycle, Nested, Nestings, cycle_in};
 use trace_board::board::Board;
 use trace_core::add;
-use trace_shapes::shapes::{x_of, y_of};
+use trace_shapes::shapes::{event_x, mark_y};
 use trace_shapes::tags::add_with_number;
-use trace_shapes::view::{View, column_of, is_in_view};
+use trace_shapes::view::{Band, View, band_of, is_in_view};
 
 /// Notes what the event nests, where the lock order is wanted.
 #[inline(always)]
@@ -34,17 +35,18 @@ pub fn note_if(nestings: &mut Nestings, ordered: bool, e: &Event, place: u64)
     }
 }
 
-// How high the middle of a ring is.
-fn middle_of(layout: &Layout, view: &View, nested: &Nested) -> u64
+// The upper edge of the mark that is ringed, in its band.
+fn top_of_ring(layout: &Layout, view: &View, band: &Band, nested: &Nested) -> u64
     requires lawful { IsLawful layout.now }
     requires few { nested.now.place < 2 ^ 42 }
+    requires band { band.now ≡ band_of layout.now view.now nested.now.place }
     ensures { result ≡ ring_y layout.now view.now nested.now }
 {
-    let band = nested.place.saturating_sub(view.first) / 100;
-    top_of(layout, band) + y_of(nested.thread.0) + 5
+    top_of(layout, number_of(view, band)) + mark_y(band, nested.thread.0)
 }
 
 // Adds a ring.
+#[tactic(auto, unfolding(crate::specs::Rings::ring_text))]
 fn add_ring(buf: &mut [u8], at: usize, layout: &Layout, view: &View, nested: &Nested) -> usize
     requires lawful { IsLawful layout.now }
     requires few { nested.now.place < 2 ^ 42 }
@@ -52,18 +54,19 @@ fn add_ring(buf: &mut [u8], at: usize, layout: &Layout, view: &View, nested: &Ne
     ensures text { take result buf.new ≡ take at buf.old ++ ring_text layout.now view.now nested.now }
     ensures near { result ≤ at + 220 }
 {
-    let x = x_of(column_of(view, nested.place)) + 5;
-    let y = middle_of(layout, view, nested);
-    let at = add_with_number(buf, at, b"<circle class='c' r='8' cx='", x);
-    let at = add_with_number(buf, at, b".5' cy='", y);
+    let band = band_of(layout, view, nested.place);
+    let x = event_x(&band, nested.place);
+    let y = top_of_ring(layout, view, &band, nested);
     let at = add_with_number(
         buf,
         at,
-        b".5' fill='none' stroke='#c00' stroke-width='2'><title>m",
-        u64::from(nested.outer.0),
+        b"<rect class='c' width='22' height='15' rx='3' x='",
+        x,
     );
+    let at = add_with_number(buf, at, b"' y='", y);
+    let at = add_with_number(buf, at, b"'><title>m", u64::from(nested.outer.0));
     let at = add_with_number(buf, at, b" then m", u64::from(nested.inner.0));
-    add(buf, at, b"</title></circle>\n")
+    add(buf, at, b"</title></rect>\n")
 }
 
 // Adds the ring, where its event is drawn.
@@ -110,9 +113,9 @@ fn add_ringed_ending(
     requires lawful { IsLawful layout.now }
     requires few { count < 2 ^ 42 }
     requires places { AllByRecursion (λ (n : Nested). n.place < 2 ^ 42) cycle.now }
-    requires room { at + 370000 ≤ length buf.old }
+    requires room { at + 440000 ≤ length buf.old }
     ensures text { take result buf.new ≡ take at buf.old ++ ringed_ending layout.now view.now (kept_of board.now) count cycle.now }
-    ensures near { result ≤ at + 370000 }
+    ensures near { result ≤ at + 440000 }
 {
     let at = add_last_closing(buf, at, layout, view, board, count);
     let at = add_rings(buf, at, layout, view, cycle);
@@ -141,7 +144,7 @@ fn end_ringed<O: Sink>(
     requires lawful { IsLawful layout.now }
     requires few { count < 2 ^ 42 }
     requires places { AllByRecursion (λ (n : Nested). n.place < 2 ^ 42) cycle.now }
-    requires room { at + 370000 ≤ length buf.old }
+    requires room { at + 440000 ≤ length buf.old }
     ensures ok { OnOk result (Appends (O.held out.old) (O.held out.new)
         (take at buf.old ++ ringed_ending layout.now view.now (kept_of board.now) count cycle.now)) }
     ensures err { OnErr result (AppendsPrefix (O.held out.old) (O.held out.new)
@@ -166,7 +169,7 @@ fn end_ordered<O: Sink>(
     requires lawful { IsLawful layout.now }
     requires few { count < 2 ^ 42 }
     requires noted { AreNoted nestings.now count }
-    requires room { at + 370000 ≤ length buf.old }
+    requires room { at + 440000 ≤ length buf.old }
     ensures ended { (es : List Event) (now : Spec) → IsKept es now nestings.now
         → (end : List ℕ) × ShowsOrdered layout.now view.now (kept_of board.now) count es end
         × Sends result (O.held out.old) (O.held out.new) (take at buf.old ++ end) }
@@ -201,7 +204,7 @@ pub fn end_legal<O: Sink>(
     requires lawful { IsLawful layout.now }
     requires few { count < 2 ^ 42 }
     requires noted { view.now.ordered ≡ true → AreNoted nestings.now count }
-    requires room { at + 370000 ≤ length buf.old }
+    requires room { at + 440000 ≤ length buf.old }
     ensures ended { (es : List Event) (now : Spec) → (view.now.ordered ≡ true → IsKept es now nestings.now)
         → (end : List ℕ) × IsEnding view.now.ordered layout.now view.now (kept_of board.now) count es end
         × Sends result (O.held out.old) (O.held out.new) (take at buf.old ++ end) }

@@ -1,82 +1,83 @@
--- The pieces of bars, numbers, failing marks and swatches, as they are put.
-use Rattle.std.proofs.Common.{◌≡◌, ℕ, ◌+◌, ◌*◌, ◌/◌, ◌%◌, Bool, List, ◌++◌, ap, ◌∙◌}
+-- The pieces of bars, numbers and failing marks, as they are put.
+use Rattle.std.proofs.Common.{◌≡◌, ℕ, ◌+◌, ◌-◌, List, ◌++◌, ap, ◌∙◌}
 use Rattle.std.specs.Prelude.{codes}
 use Rattle.larch_actions.specs.declared.event.Event.{Event}
 use Rattle.larch_actions.specs.declared.event.Broken.{Broken}
 use Rattle.trace_board.specs.declared.history.Origin.{Origin}
-use Rattle.trace_shapes.specs.declared.view.View.{View}
 use Rattle.trace_board.specs.declared.marks.Marks.{Marks}
 use Rattle.trace_board.specs.Marks.{marks}
-use Rattle.trace_shapes.specs.Places.{column, column_x, row_y, lane_y, bar_x, bar_width}
-use Rattle.trace_shapes.specs.Shapes.{with_number, box_text, place_text, span_text, bar_box, bar_text, taken_text, wait_name, wait_text, object_text, swatch_text, failed_text, line_of, clause_word}
-use Rattle.trace_shapes.proofs.Added.{added_two, added_four, added_five}
+use Rattle.trace_shapes.specs.declared.view.Band.{Band}
+use Rattle.trace_shapes.specs.declared.view.Reach.{Reach}
+use Rattle.trace_shapes.specs.declared.view.Strip.{Strip}
+use Rattle.trace_shapes.specs.declared.geometry.TheConstants.{LETTER_LINE, WAIT_TOP, WAIT_LINE, NAME_LEFT, NAME_LINE}
+use Rattle.trace_shapes.specs.Places.{event_x, mark_y, row_y, lane_y, bar_x, bar_width, wait_x, wait_end}
+use Rattle.trace_shapes.specs.Shapes.{with_number, box_text, place_text, span_text, given_text, bar_box, bar_name, bar_text, taken_text, wait_name, wait_name_if, wait_box, wait_text, digits_of, number_left, object_text, failed_text, line_of, clause_word}
+use Rattle.trace_shapes.proofs.Added.{added_two, added_four, added_five, added_six}
 
-pub added_bar_box : (start lane : ℕ) (o : Origin) (ended : Bool) (to x y w : ℕ) (old a : List ℕ) → x ≡ bar_x start o to → y ≡ lane_y o.thread.0 lane → w ≡ bar_width start o ended to
-    → a ≡ old ++ box_text x y w → a ≡ old ++ bar_box start lane o ended to
+pub added_bar_box : (r : Reach) (s : Strip) (x y w : ℕ) (old a : List ℕ) → x ≡ bar_x r s.since → y ≡ lane_y r.band s.since.thread.0 s.lane → w ≡ bar_width r s.since
+    → a ≡ old ++ box_text x y w → a ≡ old ++ bar_box r s
 unfolding bar_box
-added_bar_box start lane o ended to x y w old a same_x same_y same_w one = one ∙ (λ i. old ++ box_text (same_x i) (same_y i) (same_w i))
+added_bar_box r s x y w old a same_x same_y same_w one = one ∙ (λ i. old ++ box_text (same_x i) (same_y i) (same_w i))
 
-pub added_bar : (start mutex lane : ℕ) (o : Origin) (ended : Bool) (to m : ℕ) (old a b c d e : List ℕ) → m ≡ mutex
-    → a ≡ old ++ with_number (codes "<rect class='m") m → b ≡ a ++ bar_box start lane o ended to → c ≡ b ++ with_number (codes "' height='3'><title>m") m → d ≡ c ++ codes " held by" → e ≡ d ++ span_text o ended to
-    → e ≡ old ++ bar_text start mutex lane o ended to
-unfolding bar_text
-added_bar start mutex lane o ended to m old a b c d e same_m one two three four five =
-    let shape : ℕ → List ℕ = λ k. with_number (codes "<rect class='m") k ++ bar_box start lane o ended to ++ with_number (codes "' height='3'><title>m") k ++ codes " held by" ++ span_text o ended to in
-    added_five old a b c _ _ _ _ _ one two three d e four five ∙ (λ i. old ++ shape (same_m i))
-
-pub added_taken : (start sem lane : ℕ) (o : Origin) (ended : Bool) (to s : ℕ) (old a b c d e : List ℕ) → s ≡ sem
-    → a ≡ old ++ codes "<rect class='e" → b ≡ a ++ bar_box start lane o ended to → c ≡ b ++ with_number (codes "' height='3'><title>s") s → d ≡ c ++ codes " taken by" → e ≡ d ++ span_text o ended to
-    → e ≡ old ++ taken_text start sem lane o ended to
-unfolding taken_text
-added_taken start sem lane o ended to s old a b c d e same one two three four five =
-    let shape : ℕ → List ℕ = λ k. codes "<rect class='e" ++ bar_box start lane o ended to ++ with_number (codes "' height='3'><title>s") k ++ codes " taken by" ++ span_text o ended to in
-    added_five old a b c _ _ _ _ _ one two three d e four five ∙ (λ i. old ++ shape (same i))
-
-pub added_box : (start : ℕ) (o : Origin) (ended : Bool) (to x y w : ℕ) (old a b : List ℕ) → x ≡ bar_x start o to → y ≡ row_y o.thread.0 + 12 → w ≡ bar_width start o ended to
-    → a ≡ old ++ codes "<rect class='h" → b ≡ a ++ box_text x y w
-    → b ≡ old ++ (codes "<rect class='h" ++ box_text (bar_x start o to) (row_y o.thread.0 + 12) (bar_width start o ended to))
-added_box start o ended to x y w old a b same_x same_y same_w one two =
-    added_two old a b _ _ one two ∙ (λ i. old ++ (codes "<rect class='h" ++ box_text (same_x i) (same_y i) (same_w i)))
-
-pub added_wait : (start : ℕ) (o : Origin) (ended : Bool) (to k : ℕ) (old a b c d e : List ℕ) → k ≡ o.object
-    → a ≡ old ++ (codes "<rect class='h" ++ box_text (bar_x start o to) (row_y o.thread.0 + 12) (bar_width start o ended to)) → b ≡ a ++ with_number (codes "' height='7'><title>wait on c") k → c ≡ b ++ codes " of"
-    → d ≡ c ++ span_text o ended to → e ≡ d ++ wait_name start o to
-    → e ≡ old ++ wait_text start o ended to
-unfolding wait_text
-added_wait start o ended to k old a b c d e same one two three four five =
-    let box = codes "<rect class='h" ++ box_text (bar_x start o to) (row_y o.thread.0 + 12) (bar_width start o ended to) in
-    let shape : ℕ → List ℕ = λ z. box ++ with_number (codes "' height='7'><title>wait on c") z ++ codes " of" ++ span_text o ended to ++ wait_name start o to in
-    added_five old a b c _ _ _ _ _ one two three d e four five ∙ (λ i. old ++ shape (same i))
-
-pub added_name : (start : ℕ) (o : Origin) (to x y k : ℕ) (old a b c d : List ℕ) → x ≡ bar_x start o to → y ≡ row_y o.thread.0 → k ≡ o.object
-    → a ≡ old ++ codes "<text class='d" → b ≡ a ++ place_text (x + 2) (y + 18) → c ≡ b ++ with_number (codes "'>c") k → d ≡ c ++ codes "</text>\n"
-    → d ≡ old ++ wait_name start o to
-unfolding wait_name
-added_name start o to x y k old a b c d same_x same_y same one two three four =
-    let shape : ℕ → ℕ → ℕ → List ℕ = λ u v z. codes "<text class='d" ++ place_text (u + 2) (v + 18) ++ with_number (codes "'>c") z ++ codes "</text>\n" in
+pub added_bar_name : (name : List ℕ) (r : Reach) (s : Strip) (x y k : ℕ) (old a b c d : List ℕ) → x ≡ bar_x r s.since → y ≡ lane_y r.band s.since.thread.0 s.lane → k ≡ s.number
+    → a ≡ old ++ codes "</title></rect><text class='x" → b ≡ a ++ place_text (x + NAME_LEFT) (y + NAME_LINE) → c ≡ b ++ with_number name k → d ≡ c ++ codes "</text>\n"
+    → d ≡ old ++ bar_name name r s
+unfolding bar_name
+added_bar_name name r s x y k old a b c d same_x same_y same one two three four =
+    let shape : ℕ → ℕ → ℕ → List ℕ = λ u v z. codes "</title></rect><text class='x" ++ place_text (u + NAME_LEFT) (v + NAME_LINE) ++ with_number name z ++ codes "</text>\n" in
     added_four old a b c _ _ _ _ (codes "") one two three d four ∙ (λ i. old ++ shape (same_x i) (same_y i) (same i))
 
-pub added_object : (v : View) (n : ℕ) (e : Event) (x y : ℕ) (m : Marks) (k : ℕ) (old a b c d : List ℕ) → x ≡ column_x (column v n) → y ≡ row_y e.thread.0 → m ≡ marks e → k ≡ m.object
-    → a ≡ old ++ codes "<text class='s" → b ≡ a ++ place_text (x + 5) (y + 18) → c ≡ b ++ with_number (codes "'>") k → d ≡ c ++ codes "</text>\n"
+pub added_bar : (r : Reach) (s : Strip) (m : ℕ) (old a b c d e f : List ℕ) → m ≡ s.number
+    → a ≡ old ++ with_number (codes "<rect class='m") m → b ≡ a ++ bar_box r s → c ≡ b ++ with_number (codes "' height='12' rx='2'><title>m") m → d ≡ c ++ span_text (codes " held by t") r s.since
+    → e ≡ d ++ given_text s.since.thread.0 s.given → f ≡ e ++ bar_name (codes "'>m") r s
+    → f ≡ old ++ bar_text r s
+unfolding bar_text
+added_bar r s m old a b c d e f same_m one two three four five six =
+    let shape : ℕ → List ℕ = λ k. with_number (codes "<rect class='m") k ++ bar_box r s ++ with_number (codes "' height='12' rx='2'><title>m") k ++ span_text (codes " held by t") r s.since ++ given_text s.since.thread.0 s.given ++ bar_name (codes "'>m") r s in
+    added_six old a b c _ _ _ _ _ one two three d e f _ four five six ∙ (λ i. old ++ shape (same_m i))
+
+pub added_taken : (r : Reach) (x : Strip) (s : ℕ) (old a b c d e : List ℕ) → s ≡ x.number
+    → a ≡ old ++ codes "<rect class='e" → b ≡ a ++ bar_box r x → c ≡ b ++ with_number (codes "' height='12' rx='2'><title>s") s → d ≡ c ++ span_text (codes " taken by t") r x.since → e ≡ d ++ bar_name (codes "'>s") r x
+    → e ≡ old ++ taken_text r x
+unfolding taken_text
+added_taken r x s old a b c d e same one two three four five =
+    let shape : ℕ → List ℕ = λ k. codes "<rect class='e" ++ bar_box r x ++ with_number (codes "' height='12' rx='2'><title>s") k ++ span_text (codes " taken by t") r x.since ++ bar_name (codes "'>s") r x in
+    added_five old a b c _ _ _ _ _ one two three d e four five ∙ (λ i. old ++ shape (same i))
+
+pub added_wait_box : (r : Reach) (o : Origin) (x y w : ℕ) (old a b : List ℕ) → x ≡ wait_x r o → y ≡ row_y r.band o.thread.0 + WAIT_TOP → w ≡ wait_end r - wait_x r o
+    → a ≡ old ++ codes "<rect class='h" → b ≡ a ++ box_text x y w → b ≡ old ++ wait_box r o
+unfolding wait_box
+added_wait_box r o x y w old a b same_x same_y same_w one two = added_two old a b _ _ one two ∙ (λ i. old ++ (codes "<rect class='h" ++ box_text (same_x i) (same_y i) (same_w i)))
+
+pub added_wait : (r : Reach) (o : Origin) (k : ℕ) (old a b c d e : List ℕ) → k ≡ o.object
+    → a ≡ old ++ wait_box r o → b ≡ a ++ with_number (codes "' height='9'><title>wait on c") k → c ≡ b ++ span_text (codes " of t") r o → d ≡ c ++ codes "</title></rect>\n" → e ≡ d ++ wait_name_if r o
+    → e ≡ old ++ wait_text r o
+unfolding wait_text
+added_wait r o k old a b c d e same one two three four five =
+    let shape : ℕ → List ℕ = λ z. wait_box r o ++ with_number (codes "' height='9'><title>wait on c") z ++ span_text (codes " of t") r o ++ codes "</title></rect>\n" ++ wait_name_if r o in
+    added_five old a b c _ _ _ _ _ one two three d e four five ∙ (λ i. old ++ shape (same i))
+
+pub added_wait_name : (r : Reach) (o : Origin) (x y k : ℕ) (old a b c d : List ℕ) → x ≡ wait_x r o → y ≡ row_y r.band o.thread.0 → k ≡ o.object
+    → a ≡ old ++ codes "<text class='d" → b ≡ a ++ place_text (x + NAME_LEFT) (y + WAIT_TOP + WAIT_LINE) → c ≡ b ++ with_number (codes "'>c") k → d ≡ c ++ codes "</text>\n"
+    → d ≡ old ++ wait_name r o
+unfolding wait_name
+added_wait_name r o x y k old a b c d same_x same_y same one two three four =
+    let shape : ℕ → ℕ → ℕ → List ℕ = λ u v z. codes "<text class='d" ++ place_text (u + NAME_LEFT) (v + WAIT_TOP + WAIT_LINE) ++ with_number (codes "'>c") z ++ codes "</text>\n" in
+    added_four old a b c _ _ _ _ (codes "") one two three d four ∙ (λ i. old ++ shape (same_x i) (same_y i) (same i))
+
+pub added_object : (v : Band) (n : ℕ) (e : Event) (g x l y k : ℕ) (m : Marks) (old a b c d : List ℕ) → g ≡ digits_of m.object → x ≡ event_x v n → l ≡ number_left m.object → y ≡ row_y v e.thread.0 → m ≡ marks e → k ≡ m.object
+    → a ≡ old ++ with_number (codes "<text class='s") g → b ≡ a ++ place_text (x + l) (y + LETTER_LINE) → c ≡ b ++ with_number (codes "'>") k → d ≡ c ++ codes "</text>\n"
     → d ≡ old ++ object_text v n e
 unfolding object_text
-added_object v n e x y m k old a b c d same_x same_y is same one two three four =
-    let shape : ℕ → ℕ → ℕ → List ℕ = λ u w z. codes "<text class='s" ++ place_text (u + 5) (w + 18) ++ with_number (codes "'>") z ++ codes "</text>\n" in
+added_object v n e g x l y k m old a b c d same_g same_x same_l same_y is same one two three four =
+    let shape : ℕ → ℕ → ℕ → ℕ → ℕ → List ℕ = λ q u p w z. with_number (codes "<text class='s") q ++ place_text (u + p) (w + LETTER_LINE) ++ with_number (codes "'>") z ++ codes "</text>\n" in
+    let digits : g ≡ digits_of (marks e).object = same_g ∙ ap (λ z. digits_of z.object) is in
+    let left : l ≡ number_left (marks e).object = same_l ∙ ap (λ z. number_left z.object) is in
     let number : k ≡ (marks e).object = same ∙ ap (λ z. z.object) is in
-    added_four old a b c _ _ _ _ (codes "") one two three d four ∙ (λ i. old ++ shape (same_x i) (same_y i) (number i))
+    added_four old a b c _ _ _ _ (codes "") one two three d four ∙ (λ i. old ++ shape (digits i) (same_x i) (left i) (same_y i) (number i))
 
-pub added_failed : (v : View) (n : ℕ) (e : Event) (why : Broken) (old a b c d f : List ℕ)
-    → a ≡ old ++ codes "<use href='#F" → b ≡ a ++ place_text (column_x (column v n)) (row_y e.thread.0) → c ≡ b ++ (codes "'><title>" ++ line_of n e) → d ≡ c ++ (codes " fails " ++ clause_word why) → f ≡ d ++ codes "</title></use>\n"
+pub added_failed : (v : Band) (n : ℕ) (e : Event) (why : Broken) (old a b c d f : List ℕ)
+    → a ≡ old ++ codes "<use href='#F" → b ≡ a ++ place_text (event_x v n) (mark_y v e.thread.0) → c ≡ b ++ (codes "'><title>" ++ line_of n e) → d ≡ c ++ (codes " fails " ++ clause_word why) → f ≡ d ++ codes "</title></use>\n"
     → f ≡ old ++ failed_text v n e why
 unfolding failed_text
 added_failed v n e why old a b c d f one two three four five = added_five old a b c _ _ _ _ _ one two three d f four five
-
-pub added_swatch : (mutex m : ℕ) (old a b c d e : List ℕ) → m ≡ mutex → a ≡ old ++ with_number (codes "<rect width='11' height='11' class='m") m → b ≡ a ++ place_text (44 + 43 * (m % 28)) (72 + 14 * (m / 28))
-    → c ≡ b ++ (with_number (codes "'/><text x='") (58 + 43 * (m % 28)) ++ with_number (codes "' y='") (81 + 14 * (m / 28))) → d ≡ c ++ with_number (codes "'>m") m → e ≡ d ++ codes "</text>\n"
-    → e ≡ old ++ swatch_text mutex
-unfolding swatch_text
-added_swatch mutex m old a b c d e same one two three four five =
-    let shape : ℕ → List ℕ = λ k.
-    with_number (codes "<rect width='11' height='11' class='m") k ++ place_text (44 + 43 * (k % 28)) (72 + 14 * (k / 28)) ++ (with_number (codes "'/><text x='") (58 + 43 * (k % 28)) ++ with_number (codes "' y='") (81 + 14 * (k / 28))) ++ with_number (codes "'>m") k ++ codes "</text>\n"
-    in
-    added_five old a b c _ _ _ _ _ one two three d e four five ∙ (λ i. old ++ shape (same i))

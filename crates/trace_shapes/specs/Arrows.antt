@@ -1,11 +1,16 @@
--- The arrow from the event that let a thread go on to the event by which it went on, and the line from the event that gave a mutex back to the next that took it.
+-- The arrow from the event that let a thread go on to the event by which it went on.
 use Rattle.std.specs.Prelude.{ℕ, ◌+◌, ◌-◌, ◌==◌, nat_lt, nat_le, if◌then◌else◌, List, [], ◌++◌, codes, min, Some, None}
 use Rattle.std.specs.declared.option.Option.{Option}
 use Rattle.trace_board.specs.declared.history.Origin.{Origin}
-use Rattle.trace_board.specs.declared.history.Effect.{Effect}
-use Rattle.trace_board.specs.declared.history.Effect.TheVariants.{Begins, Ends, Stays}
-use Rattle.trace_shapes.specs.Places.{column_x, row_y}
+use Rattle.trace_shapes.specs.declared.view.Band.{Band}
+use Rattle.trace_shapes.specs.declared.view.Link.{Link}
+use Rattle.trace_shapes.specs.declared.geometry.TheConstants.{MIDDLE, MARK_HEIGHT}
+use Rattle.trace_shapes.specs.Places.{event_x, row_y, mark_y}
 use Rattle.trace_shapes.specs.Shapes.{with_number}
+
+-- the arrow to the event n of the thread t in this band, from the event o
+abbrev pub link : Band → ℕ → ℕ → Origin → Link
+link b n t o = record { band = b; place = n; to = t; from = o }
 
 -- a point of a line
 abbrev pub point_text : List ℕ → ℕ → ℕ → List ℕ
@@ -15,15 +20,19 @@ point_text word x y = with_number word x ++ with_number (codes " ") y
 unfoldable pub bow_text : ℕ → ℕ → ℕ → ℕ → List ℕ
 bow_text x y u w = point_text (codes "<path class='a' d='M") x y ++ point_text (codes "Q") x w ++ point_text (codes " ") u w
 
--- where the arrow to the event n begins, in the band that begins at `start`: below or above the mark of the event that let go on, or
--- beside the mark of the event n, where the other is not in this band
-abbrev pub bow_x : ℕ → ℕ → Origin → ℕ
-bow_x start n o = if nat_le start o.place then column_x (min o.place n - start) + 5 else column_x (n - start) - 11
+-- where an arrow begins: below or above the mark of the event that let go on, or beside the mark of the other, where the first is not in this band
+abbrev pub bow_x : Link → ℕ
+bow_x k = if nat_le k.band.start k.from.place then event_x k.band (min k.from.place k.place) + MIDDLE else event_x k.band k.place - MIDDLE
 
-abbrev pub bow_y : ℕ → ℕ → Origin → ℕ
-bow_y start t o =
-    if nat_le start o.place then (if nat_lt o.thread.0 t then row_y o.thread.0 + 11 else row_y o.thread.0)
-    else (if nat_lt o.thread.0 t then row_y t - 4 else row_y t + 16)
+abbrev pub bow_y : Link → ℕ
+bow_y k =
+    if nat_le k.band.start k.from.place then
+    (if nat_lt k.from.thread.0 k.to then mark_y k.band k.from.thread.0 + MARK_HEIGHT else mark_y k.band k.from.thread.0)
+    else (if nat_lt k.from.thread.0 k.to then row_y k.band k.to else mark_y k.band k.to + MARK_HEIGHT)
+
+-- the height of its head
+abbrev pub bow_head : Link → ℕ
+bow_head k = mark_y k.band k.to + 7
 
 -- an event, by its place and its thread
 abbrev pub origin_text : Origin → List ℕ
@@ -33,29 +42,10 @@ origin_text o = with_number (codes "'><title>event ") o.place ++ with_number (co
 unfoldable pub cause_text : ℕ → Origin → List ℕ
 cause_text t o = origin_text o ++ with_number (codes " lets t") t ++ codes " go on</title></path>\n"
 
--- the arrow to the event n of the thread t, from the event o
-unfoldable pub arrow_text : ℕ → ℕ → ℕ → Origin → List ℕ
-arrow_text start n t o = bow_text (bow_x start n o) (bow_y start t o) (column_x (n - start) - 1) (row_y t + 6) ++ cause_text t o
+unfoldable pub arrow_text : Link → List ℕ
+arrow_text k = bow_text (bow_x k) (bow_y k) (event_x k.band k.place - 1) (bow_head k) ++ cause_text k.to k.from
 
 -- the arrow, where another thread let t go on
-abbrev pub arrow_if : ℕ → ℕ → ℕ → Option Origin → List ℕ
-arrow_if start n t None = []
-arrow_if start n t (Some o) = if o.thread.0 == t then [] else arrow_text start n t o
-
--- the line to the event n of the thread t, by which it takes the mutex m, from the event o that gave it back
-unfoldable pub line_text : ℕ → ℕ → ℕ → ℕ → Origin → List ℕ
-line_text start n t m o =
-    (point_text (codes "<path class='l' d='M") (bow_x start n o) (bow_y start t o)
-    ++ point_text (codes "L") (column_x (n - start) - 1) (row_y t + 8)) ++ origin_text o
-    ++ (with_number (codes " hands on m") m ++ with_number (codes " to t") t) ++ codes "</title></path>\n"
-
--- the line, where another thread gave the mutex back
-abbrev pub line_if : ℕ → ℕ → ℕ → ℕ → Option Origin → List ℕ
-line_if start n t m None = []
-line_if start n t m (Some o) = if o.thread.0 == t then [] else line_text start n t m o
-
--- the line, where the event takes a mutex
-abbrev pub handed : ℕ → ℕ → ℕ → (ℕ → Option Origin) → Effect → List ℕ
-handed start n t given (Begins m) = line_if start n t m (given m)
-handed start n t given (Ends m) = []
-handed start n t given Stays = []
+abbrev pub arrow_if : Band → ℕ → ℕ → Option Origin → List ℕ
+arrow_if b n t None = []
+arrow_if b n t (Some o) = if o.thread.0 == t then [] else arrow_text (link b n t o)

@@ -1,8 +1,9 @@
 -- The marks of events: how each looks, and what it is the mark of.
-use Rattle.std.specs.Prelude.{ℕ, List, [], ◌∷◌, codes, slice_index}
+use Rattle.std.specs.Prelude.{ℕ, Bool, true, false, if◌then◌else◌, List, [], ◌∷◌, codes, slice_index}
 use Rattle.trace_board.specs.declared.marks.Mark.{Mark}
 use Rattle.trace_board.specs.declared.marks.Mark.TheVariants.{Acquire, Release, Enqueue, Resume, Signal, Broadcast, P, V, Alert, TestAlert, AlertEnqueue, AlertReturn, AlertRaise, AlertPReturn, AlertPRaise, Fork, End, Join, Failed}
 use Rattle.trace_shapes.specs.declared.legend.Look.{Look}
+use Rattle.trace_shapes.specs.declared.geometry.TheConstants.{LETTER_LEFT, MIDDLE}
 
 -- how a mark is called, its class, and how it is shown
 abbrev pub look : ℕ → ℕ → ℕ → Look
@@ -33,12 +34,25 @@ look_of End = look_text (codes "EjE")
 look_of Join = look_text (codes "JjJ")
 look_of Failed = look_text (codes "Ff#")
 
+-- a number stands beside its letter: not where a bar has the name of the object, or the row
+abbrev pub has_number : Mark → Bool
+has_number Acquire = false
+has_number Release = false
+has_number TestAlert = false
+has_number End = false
+has_number Failed = false
+has_number _ = true
+
+-- where its letter stands
+abbrev pub letter_x : Mark → ℕ
+letter_x m = if has_number m then LETTER_LEFT else MIDDLE
+
 -- what it is the mark of
 abbrev pub words_of : Mark → List ℕ
 words_of Acquire = codes "acquire"
 words_of Release = codes "release"
-words_of Enqueue = codes "enqueue"
-words_of Resume = codes "resume"
+words_of Enqueue = codes "enqueue: a wait begins"
+words_of Resume = codes "resume: a wait ends"
 words_of Signal = codes "signal"
 words_of Broadcast = codes "broadcast"
 words_of P = codes "p"

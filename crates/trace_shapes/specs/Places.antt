@@ -1,10 +1,13 @@
--- Where things stand in the picture: a hundred events a band, a row a thread, in points from the upper left.
+-- Where things stand in the picture: a band of columns, one an event, with a row a thread, in points from the upper left.
 use Rattle.std.specs.Prelude.{ℕ, ◌+◌, ◌-◌, ◌*◌, ◌/◌, ◌%◌, ◌==◌, ◌&&◌, not, nat_lt, nat_le, Bool, min, max, if◌then◌else◌}
 use Rattle.larch_actions.specs.declared.event.Version.{Version}
 use Rattle.larch_actions.specs.declared.event.Version.TheVariants.{One, Two}
 use Rattle.larch_actions.specs.declared.event.Layout.{Layout}
 use Rattle.trace_board.specs.declared.history.Origin.{Origin}
 use Rattle.trace_shapes.specs.declared.view.View.{View}
+use Rattle.trace_shapes.specs.declared.view.Band.{Band}
+use Rattle.trace_shapes.specs.declared.view.Reach.{Reach}
+use Rattle.trace_shapes.specs.declared.geometry.TheConstants.{BAND, COLUMN, LEFT, AXIS, BAND_GAP, ROW, LANE, ROW_GAP, LANES, MARK_TOP, LANE_TOP, BAR_GAP, TOP_ONE, TOP_TWO}
 
 -- the event at place n is drawn
 abbrev pub in_view : View → ℕ → Bool
@@ -16,60 +19,84 @@ shown v n = min n v.end - v.first
 
 -- the column of the event in its band
 abbrev pub column : View → ℕ → ℕ
-column v n = (n - v.first) % 100
+column v n = (n - v.first) % BAND
 
 -- after n events the last band has room for more
 abbrev pub is_open : View → ℕ → Bool
-is_open v n = nat_lt n v.end && not ((n - v.first) % 100 == 0)
+is_open v n = nat_lt n v.end && not ((n - v.first) % BAND == 0)
 
 -- how many bands the first n events take
 abbrev pub bands : View → ℕ → ℕ
-bands v n = (shown v n + 99) / 100
+bands v n = (shown v n + (BAND - 1)) / BAND
 
--- how high a band is
+-- a row has a lane for each mutex and semaphore, and at most four
+abbrev pub lanes_of : Layout → ℕ
+lanes_of l = min (l.mutexes + l.semaphores) LANES
+
+-- the band of the event n
+abbrev pub band_of : Layout → View → ℕ → Band
+band_of l v n = record { start = n - column v n; lanes = lanes_of l }
+
+-- how far below one another rows with so many lanes stand, and how high they are
+abbrev pub row_step : ℕ → ℕ
+row_step lanes = ROW + LANE * lanes
+
+abbrev pub row_height : ℕ → ℕ
+row_height lanes = row_step lanes - ROW_GAP
+
+-- how far below one another the bands stand
 abbrev pub band_height : Layout → ℕ
-band_height l = 34 * l.threads + 30
+band_height l = row_step (lanes_of l) * l.threads + (AXIS + BAND_GAP)
 
 -- the upper edge of the first band: in version two the legend has a line more
 abbrev pub first_top : Version → ℕ
-first_top One = 116
-first_top Two = 132
+first_top One = TOP_ONE
+first_top Two = TOP_TWO
 
 -- the upper edge of the band at this number
 abbrev pub band_top : Layout → ℕ → ℕ
 band_top l k = first_top l.version + k * band_height l
 
--- how high the picture of n events is, but for its last line
+-- how high the picture of n events is, but for its last lines
 abbrev pub height_of : Layout → View → ℕ → ℕ
 height_of l v n = band_top l (bands v n)
 
 -- the left edge of a column
 abbrev pub column_x : ℕ → ℕ
-column_x c = 44 + 12 * c
+column_x c = LEFT + COLUMN * c
 
--- the upper edge of the row of a thread, in its band
-abbrev pub row_y : ℕ → ℕ
-row_y t = 18 + 34 * t
+-- the upper edges, in a band, of the row of a thread, of its marks, and of a lane of its bars
+abbrev pub row_y : Band → ℕ → ℕ
+row_y b t = AXIS + row_step b.lanes * t
 
--- the upper edge of a lane of bars in a row
-abbrev pub lane_y : ℕ → ℕ → ℕ
-lane_y t lane = 19 + row_y t + 3 * lane
+abbrev pub mark_y : Band → ℕ → ℕ
+mark_y b t = row_y b t + MARK_TOP
 
--- the first column of a bar in the band that begins at the event `start`, where the bar ends before the event `to`
-abbrev pub bar_from : ℕ → Origin → ℕ → ℕ
-bar_from start o to = min (max o.place start) to
+abbrev pub lane_y : Band → ℕ → ℕ → ℕ
+lane_y b t lane = row_y b t + LANE_TOP + LANE * lane
 
--- A bar leaves a gap where what it shows begins and where that ends, so two side by side are seen apart. Where it comes from the band before, or
--- goes on in the next, there is none.
-abbrev pub gap_before : ℕ → Origin → ℕ
-gap_before start o = if nat_le start o.place then 2 else 0
+-- the left edge of the event n in its band
+abbrev pub event_x : Band → ℕ → ℕ
+event_x b n = column_x (n - b.start)
 
+-- the first event of a bar that its band shows
+abbrev pub bar_from : Reach → Origin → ℕ
+bar_from r o = min (max o.place r.band.start) r.to
+
+-- A bar ends short of the next column where what it shows ends, so two side by side are seen apart. Where it goes on in the next band it doesn't.
 abbrev pub gap_after : Bool → ℕ
-gap_after ended = if ended then 2 else 0
+gap_after ended = if ended then BAR_GAP else 0
 
 -- the left edge of a bar, and its width
-abbrev pub bar_x : ℕ → Origin → ℕ → ℕ
-bar_x start o to = column_x (bar_from start o to - start) + gap_before start o
+abbrev pub bar_x : Reach → Origin → ℕ
+bar_x r o = event_x r.band (bar_from r o)
 
-abbrev pub bar_width : ℕ → Origin → Bool → ℕ → ℕ
-bar_width start o ended to = 12 * (to - bar_from start o to) - (gap_before start o + gap_after ended)
+abbrev pub bar_width : Reach → Origin → ℕ
+bar_width r o = COLUMN * (r.to - bar_from r o) - gap_after r.ended
+
+-- a wait stands between the mark that begins it and the one that ends it
+abbrev pub wait_x : Reach → Origin → ℕ
+wait_x r o = if nat_le r.band.start o.place then event_x r.band (min o.place r.to) + COLUMN else LEFT - BAR_GAP
+
+abbrev pub wait_end : Reach → ℕ
+wait_end r = if r.ended then event_x r.band (r.to - 1) - 1 else event_x r.band r.to

@@ -1,16 +1,18 @@
--- The texts of marks, bars, rows and legends.
-use Rattle.std.specs.Prelude.{ℕ, zero, suc, ◌+◌, ◌-◌, ◌*◌, ◌/◌, ◌%◌, ◌==◌, nat_lt, Bool, if◌then◌else◌, List, [], ◌∷◌, ◌++◌, codes, decimal}
+-- The texts of marks, bars and rows.
+use Rattle.std.specs.Prelude.{ℕ, zero, suc, ◌+◌, ◌-◌, ◌%◌, ◌==◌, nat_lt, Bool, if◌then◌else◌, List, [], ◌∷◌, ◌++◌, codes, decimal, Some, None}
+use Rattle.std.specs.declared.option.Option.{Option}
 use Rattle.larch_actions.specs.declared.event.Event.{Event}
 use Rattle.larch_actions.specs.declared.event.Broken.{Broken}
 use Rattle.larch_actions.specs.declared.event.Broken.TheVariants as broken
 use Rattle.trace_core.specs.Text.{action_text}
 use Rattle.trace_board.specs.declared.history.Origin.{Origin}
-use Rattle.trace_board.specs.declared.history.Effect.{Effect}
-use Rattle.trace_board.specs.declared.history.Effect.TheVariants.{Begins, Ends, Stays}
-use Rattle.trace_shapes.specs.declared.view.View.{View}
-use Rattle.trace_shapes.specs.Looks.{look_of}
 use Rattle.trace_board.specs.Marks.{marks}
-use Rattle.trace_shapes.specs.Places.{column, column_x, row_y, lane_y, bar_x, bar_width}
+use Rattle.trace_shapes.specs.declared.view.Band.{Band}
+use Rattle.trace_shapes.specs.declared.view.Reach.{Reach}
+use Rattle.trace_shapes.specs.declared.view.Strip.{Strip}
+use Rattle.trace_shapes.specs.declared.geometry.TheConstants.{LETTER_LINE, WAIT_TOP, DIGIT_LEFT, DIGITS_END, NAME_LEFT, NAME_LINE, WAIT_LINE, NAMED_WAIT, MIDDLE}
+use Rattle.trace_shapes.specs.Looks.{look_of, has_number}
+use Rattle.trace_shapes.specs.Places.{row_y, row_height, mark_y, lane_y, event_x, bar_x, bar_width, wait_x, wait_end}
 
 -- words and a number
 abbrev pub with_number : List ℕ → ℕ → List ℕ
@@ -40,96 +42,105 @@ unfoldable pub box_text : ℕ → ℕ → ℕ → List ℕ
 box_text x y width = place_text x y ++ with_number (codes "' width='") width
 
 -- the mark of an event: its letter, and its line as the title
-unfoldable pub mark_text : View → ℕ → Event → List ℕ
-mark_text v n e =
-    (codes "<use href='#" ++ (look_of (marks e).mark).letter ∷ []) ++ place_text (column_x (column v n)) (row_y e.thread.0)
+unfoldable pub mark_text : Band → ℕ → Event → List ℕ
+mark_text b n e =
+    (codes "<use href='#" ++ (look_of (marks e).mark).letter ∷ []) ++ place_text (event_x b n) (mark_y b e.thread.0)
     ++ (codes "'><title>" ++ line_of n e) ++ codes "</title></use>\n"
 
--- the number of an event's object, below its mark
-unfoldable pub object_text : View → ℕ → Event → List ℕ
-object_text v n e =
-    codes "<text class='s" ++ place_text (column_x (column v n) + 5) (row_y e.thread.0 + 18) ++ with_number (codes "'>") (marks e).object
-    ++ codes "</text>\n"
+-- how many digits a small number has, and where it stands in its mark: a longer one ends at the mark's end
+abbrev pub digits_of : ℕ → ℕ
+digits_of k = if nat_lt k 10 then 1 else (if nat_lt k 100 then 2 else 3)
 
--- the same, but for the two ends of a wait, whose bar has the number
-abbrev pub object_if : View → ℕ → Event → Effect → List ℕ
-object_if v n e (Begins k) = []
-object_if v n e (Ends k) = []
-object_if v n e Stays = object_text v n e
+abbrev pub number_left : ℕ → ℕ
+number_left k = if nat_lt k 10 then DIGIT_LEFT else DIGITS_END
+
+-- the number of an event's object, beside the letter of its mark
+unfoldable pub object_text : Band → ℕ → Event → List ℕ
+object_text b n e =
+    with_number (codes "<text class='s") (digits_of (marks e).object)
+    ++ place_text (event_x b n + number_left (marks e).object) (row_y b e.thread.0 + LETTER_LINE)
+    ++ with_number (codes "'>") (marks e).object ++ codes "</text>\n"
+
+-- the same, but where a bar has the name, or the row
+abbrev pub object_if : Band → ℕ → Event → List ℕ
+object_if b n e = if has_number (marks e).mark then object_text b n e else []
 
 -- the mark of an event that fails, with its line and what it fails
-unfoldable pub failed_text : View → ℕ → Event → Broken → List ℕ
-failed_text v n e why =
-    codes "<use href='#F" ++ place_text (column_x (column v n)) (row_y e.thread.0) ++ (codes "'><title>" ++ line_of n e)
+unfoldable pub failed_text : Band → ℕ → Event → Broken → List ℕ
+failed_text b n e why =
+    codes "<use href='#F" ++ place_text (event_x b n) (mark_y b e.thread.0) ++ (codes "'><title>" ++ line_of n e)
     ++ (codes " fails " ++ clause_word why) ++ codes "</title></use>\n"
 
 -- where a bar ends
 unfoldable pub end_words : Bool → ℕ → List ℕ
 end_words ended to = if ended then with_number (codes " to event ") (to - 1) else codes " on"
 
--- from which event to which a bar goes, as the end of its title
-unfoldable pub span_text : Origin → Bool → ℕ → List ℕ
-span_text o ended to =
-    with_number (codes " t") o.thread.0 ++ with_number (codes " from event ") o.place ++ end_words ended to ++ codes "</title></rect>\n"
+-- of which thread, and from which event to which, a bar is
+unfoldable pub span_text : List ℕ → Reach → Origin → List ℕ
+span_text of r o = with_number of o.thread.0 ++ with_number (codes " from event ") o.place ++ end_words r.ended r.to
 
--- where a bar in this lane stands that ends before the event `to`, as far as the band that begins at `start` shows it
-unfoldable pub bar_box : ℕ → ℕ → Origin → Bool → ℕ → List ℕ
-bar_box start lane o ended to = box_text (bar_x start o to) (lane_y o.thread.0 lane) (bar_width start o ended to)
+-- which event gave the mutex back before, where it was one of another thread
+unfoldable pub giver_text : Origin → List ℕ
+giver_text o = with_number (codes ", after event ") o.place ++ with_number (codes " of t") o.thread.0 ++ codes " gave it back"
 
--- a mutex that is held up to the event before `to`, as far as the band that begins at `start` shows it, in this lane
-unfoldable pub bar_text : ℕ → ℕ → ℕ → Origin → Bool → ℕ → List ℕ
-bar_text start m lane o ended to =
-    with_number (codes "<rect class='m") m ++ bar_box start lane o ended to ++ with_number (codes "' height='3'><title>m") m
-    ++ codes " held by" ++ span_text o ended to
+abbrev pub given_text : ℕ → Option Origin → List ℕ
+given_text t None = []
+given_text t (Some o) = if o.thread.0 == t then [] else giver_text o
 
--- a semaphore that is taken, likewise
-unfoldable pub taken_text : ℕ → ℕ → ℕ → Origin → Bool → ℕ → List ℕ
-taken_text start s lane o ended to =
-    codes "<rect class='e" ++ bar_box start lane o ended to ++ with_number (codes "' height='3'><title>s") s ++ codes " taken by"
-    ++ span_text o ended to
+-- where a bar stands
+unfoldable pub bar_box : Reach → Strip → List ℕ
+bar_box r x = box_text (bar_x r x.since) (lane_y r.band x.since.thread.0 x.lane) (bar_width r x.since)
 
--- the number of the condition of a wait, in its bar
-unfoldable pub wait_name : ℕ → Origin → ℕ → List ℕ
-wait_name start o to =
-    codes "<text class='d" ++ place_text (bar_x start o to + 2) (row_y o.thread.0 + 18) ++ with_number (codes "'>c") o.object
-    ++ codes "</text>\n"
+-- the end of a bar's tag, and its name
+unfoldable pub bar_name : List ℕ → Reach → Strip → List ℕ
+bar_name name r x =
+    codes "</title></rect><text class='x" ++ place_text (bar_x r x.since + NAME_LEFT) (lane_y r.band x.since.thread.0 x.lane + NAME_LINE)
+    ++ with_number name x.number ++ codes "</text>\n"
 
--- a wait, likewise, between the marks and the bars
-unfoldable pub wait_text : ℕ → Origin → Bool → ℕ → List ℕ
-wait_text start o ended to =
-    codes "<rect class='h" ++ box_text (bar_x start o to) (row_y o.thread.0 + 12) (bar_width start o ended to)
-    ++ with_number (codes "' height='7'><title>wait on c") o.object ++ codes " of" ++ span_text o ended to ++ wait_name start o to
+-- a mutex that is held
+unfoldable pub bar_text : Reach → Strip → List ℕ
+bar_text r x =
+    with_number (codes "<rect class='m") x.number ++ bar_box r x ++ with_number (codes "' height='12' rx='2'><title>m") x.number
+    ++ span_text (codes " held by t") r x.since ++ given_text x.since.thread.0 x.given ++ bar_name (codes "'>m") r x
+
+-- a semaphore that is taken
+unfoldable pub taken_text : Reach → Strip → List ℕ
+taken_text r x =
+    codes "<rect class='e" ++ bar_box r x ++ with_number (codes "' height='12' rx='2'><title>s") x.number
+    ++ span_text (codes " taken by t") r x.since ++ bar_name (codes "'>s") r x
+
+-- the name of the condition of a wait
+unfoldable pub wait_name : Reach → Origin → List ℕ
+wait_name r o =
+    codes "<text class='d" ++ place_text (wait_x r o + NAME_LEFT) (row_y r.band o.thread.0 + WAIT_TOP + WAIT_LINE)
+    ++ with_number (codes "'>c") o.object ++ codes "</text>\n"
+
+-- the same, where there is room for it
+abbrev pub wait_name_if : Reach → Origin → List ℕ
+wait_name_if r o = if nat_lt (wait_end r - wait_x r o) NAMED_WAIT then [] else wait_name r o
+
+-- a wait in a condition
+unfoldable pub wait_box : Reach → Origin → List ℕ
+wait_box r o = codes "<rect class='h" ++ box_text (wait_x r o) (row_y r.band o.thread.0 + WAIT_TOP) (wait_end r - wait_x r o)
+
+unfoldable pub wait_text : Reach → Origin → List ℕ
+wait_text r o =
+    wait_box r o ++ with_number (codes "' height='9'><title>wait on c") o.object ++ span_text (codes " of t") r o
+    ++ codes "</title></rect>\n" ++ wait_name_if r o
+
+-- the end of a row's tag, and its name
+unfoldable pub row_name : Band → ℕ → List ℕ
+row_name b t =
+    with_number (codes "'/><text class='y' x='6' y='") (row_y b t + LETTER_LINE) ++ with_number (codes "'>t") t ++ codes "</text>\n"
 
 -- the row of a thread, with its name
-unfoldable pub row_text : ℕ → List ℕ
-row_text t =
-    with_number (codes "<rect class='r' x='40' width='1208' height='32' y='") (row_y t)
-    ++ with_number (codes "'/><text x='6' y='") (20 + row_y t) ++ with_number (codes "'>t") t ++ codes "</text>\n"
+unfoldable pub row_text : Band → ℕ → List ℕ
+row_text b t =
+    with_number (codes "<rect class='r' x='40' width='1208' height='") (row_height b.lanes) ++ with_number (codes "' y='") (row_y b t)
+    ++ row_name b t
 
--- the number of each tenth event above its column
-unfoldable pub number_text : View → ℕ → List ℕ
-number_text v n =
-    if column v n % 10 == 0 then with_number (codes "<text class='n' y='12' x='") (column_x (column v n)) ++ with_number (codes "'>") n
+-- the number of each fifth event above its column
+unfoldable pub number_text : Band → ℕ → List ℕ
+number_text b n =
+    if (n - b.start) % 5 == 0 then with_number (codes "<text class='n' y='11' x='") (event_x b n + MIDDLE) ++ with_number (codes "'>") n
     ++ codes "</text>\n" else []
-
--- the stripes over the colour of a mutex past the seventh: the first seven have none, and each further seven have others
-unfoldable pub stripes_text : ℕ → List ℕ
-stripes_text m =
-    (with_number (codes "<pattern width='8' height='8' patternUnits='userSpaceOnUse' id='m") m
-    ++ with_number (codes "'><rect width='8' height='8' class='m") (m % 7))
-    ++ with_number (codes "'/><use href='#q") (m / 7) ++ with_number (codes "'/></pattern>\n<style>.m") m
-    ++ with_number (codes "{fill:url(#m") m ++ codes ")}</style>\n"
-
-abbrev pub stripes_if : ℕ → List ℕ
-stripes_if m = if nat_lt m 7 then [] else stripes_text m
-
--- the colour and the stripes of a mutex, in the legend
-unfoldable pub swatch_text : ℕ → List ℕ
-swatch_text m =
-    with_number (codes "<rect width='11' height='11' class='m") m ++ place_text (44 + 43 * (m % 28)) (72 + 14 * (m / 28))
-    ++ (with_number (codes "'/><text x='") (58 + 43 * (m % 28)) ++ with_number (codes "' y='") (81 + 14 * (m / 28)))
-    ++ with_number (codes "'>m") m ++ codes "</text>\n"
-
--- what makes the colour of a mutex, and its place in the legend
-abbrev pub painted_text : ℕ → List ℕ
-painted_text m = stripes_if m ++ swatch_text m

@@ -3,9 +3,11 @@
 //! A further mark is a row in each function here and in specs/Looks.antt.
 ghost use Rattle.std.specs.Prelude.{◌≡◌, ◌+◌, ◌*◌, ◌<◌, ◌≤◌, ◌∷◌, [], ◌++◌, length, take, codes};
 ghost use Rattle.trace_shapes.specs.Shapes.{each_below};
-ghost use Rattle.trace_shapes.specs.Looks.{look, look_of, words_of};
-ghost use Rattle.trace_shapes.specs.Legend.{place_in_legend, shape_text, words_text, entry_text, entry_at, life_line, life_legend};
+ghost use Rattle.trace_shapes.specs.Looks.{look, look_of, has_number, letter_x, words_of};
+ghost use Rattle.trace_shapes.specs.Shapes.{with_number};
+ghost use Rattle.trace_shapes.specs.Legend.{place_in_legend, letter_text, shape_text, words_text, entry_text, entry_at, life_line, life_legend};
 
+use crate::geometry::{LETTER_LEFT, MIDDLE};
 use crate::tags::add_with_number;
 use larch_actions::Version;
 use trace_board::marks::Mark;
@@ -78,16 +80,55 @@ pub fn look_of(mark: Mark) -> Look
     }
 }
 
+/// Whether a number stands beside its letter.
+#[inline(always)]
+pub fn has_number(mark: Mark) -> bool
+    ensures { result ≡ has_number mark }
+{
+    match mark {
+        Mark::Acquire => false,
+        Mark::Release => false,
+        Mark::TestAlert => false,
+        Mark::End => false,
+        Mark::Failed => false,
+        Mark::Enqueue => true,
+        Mark::Resume => true,
+        Mark::Signal => true,
+        Mark::Broadcast => true,
+        Mark::P => true,
+        Mark::V => true,
+        Mark::Alert => true,
+        Mark::AlertEnqueue => true,
+        Mark::AlertReturn => true,
+        Mark::AlertRaise => true,
+        Mark::AlertPReturn => true,
+        Mark::AlertPRaise => true,
+        Mark::Fork => true,
+        Mark::Join => true,
+    }
+}
+
+// Where its letter stands.
+fn letter_x(mark: Mark) -> u64
+    ensures { result ≡ letter_x mark }
+{
+    if has_number(mark) {
+        LETTER_LEFT
+    } else {
+        MIDDLE
+    }
+}
+
 // What it is the mark of.
 fn words_of(mark: Mark) -> &'static [u8]
     ensures words { result.now ≡ words_of mark }
-    ensures short { length result.now ≤ 20 }
+    ensures short { length result.now ≤ 30 }
 {
     match mark {
         Mark::Acquire => b"acquire",
         Mark::Release => b"release",
-        Mark::Enqueue => b"enqueue",
-        Mark::Resume => b"resume",
+        Mark::Enqueue => b"enqueue: a wait begins",
+        Mark::Resume => b"resume: a wait ends",
         Mark::Signal => b"signal",
         Mark::Broadcast => b"broadcast",
         Mark::P => b"p",
@@ -128,32 +169,44 @@ fn add_with_byte(buf: &mut [u8], at: usize, text: &[u8], byte: u8) -> usize
     add(buf, at, &[byte])
 }
 
-// Adds a mark as it is drawn.
-#[tactic(auto, unfolding(crate::specs::Legend::shape_text))]
-fn add_shape(buf: &mut [u8], at: usize, look: &Look) -> usize
+// Adds where the letter of a mark stands, and the letter.
+#[tactic(auto, unfolding(crate::specs::Legend::letter_text))]
+fn add_letter(buf: &mut [u8], at: usize, mark: Mark) -> usize
     requires { at + 120 ≤ length buf.old }
-    ensures text { take result buf.new ≡ take at buf.old ++ shape_text look.now }
+    ensures text { take result buf.new ≡ take at buf.old ++ letter_text mark }
     ensures near { result ≤ at + 120 }
 {
-    let at = add_with_byte(buf, at, b"<g id='", look.letter);
-    let at = add_with_byte(buf, at, b"'><rect class='", look.class);
-    let at = add_with_byte(
+    let at = add_with_number(
         buf,
         at,
-        b"' width='11' height='11' rx='2'/><text class='i' x='5.5' y='9'>",
-        look.shown,
+        b"' width='22' height='15' rx='3'/><text class='i' y='12' x='",
+        letter_x(mark),
     );
+    add_with_byte(buf, at, b"'>", look_of(mark).shown)
+}
+
+// Adds a mark as it is drawn.
+#[tactic(auto, unfolding(crate::specs::Legend::shape_text))]
+fn add_shape(buf: &mut [u8], at: usize, mark: Mark) -> usize
+    requires { at + 200 ≤ length buf.old }
+    ensures text { take result buf.new ≡ take at buf.old ++ shape_text mark }
+    ensures near { result ≤ at + 200 }
+{
+    let look = look_of(mark);
+    let at = add_with_byte(buf, at, b"<g id='", look.letter);
+    let at = add_with_byte(buf, at, b"'><rect class='", look.class);
+    let at = add_letter(buf, at, mark);
     add(buf, at, b"</text></g>")
 }
 
 // Adds what the mark is the mark of.
 #[tactic(auto, unfolding(crate::specs::Legend::words_text))]
 fn add_words(buf: &mut [u8], at: usize, mark: Mark) -> usize
-    requires { at + 60 ≤ length buf.old }
+    requires { at + 80 ≤ length buf.old }
     ensures text { take result buf.new ≡ take at buf.old ++ words_text mark }
-    ensures near { result ≤ at + 60 }
+    ensures near { result ≤ at + 80 }
 {
-    let at = add(buf, at, b"<text x='16' y='9'>");
+    let at = add(buf, at, b"<text x='26' y='12'>");
     let at = add(buf, at, words_of(mark));
     add(buf, at, b"</text></g>\n")
 }
@@ -161,20 +214,20 @@ fn add_words(buf: &mut [u8], at: usize, mark: Mark) -> usize
 // Adds the entry of a mark.
 #[tactic(auto, unfolding(crate::specs::Legend::entry_text))]
 fn add_entry(buf: &mut [u8], at: usize, x: u64, y: u64, mark: Mark) -> usize
-    requires { at + 280 ≤ length buf.old }
+    requires { at + 380 ≤ length buf.old }
     ensures text { take result buf.new ≡ take at buf.old ++ entry_text x y mark }
-    ensures near { result ≤ at + 280 }
+    ensures near { result ≤ at + 380 }
 {
     let at = add_place_in_legend(buf, at, x, y);
-    let at = add_shape(buf, at, &look_of(mark));
+    let at = add_shape(buf, at, mark);
     add_words(buf, at, mark)
 }
 
 /// Adds the entries of all marks of version one.
 pub fn add_entries(buf: &mut [u8], at: usize) -> usize
-    requires { at + 4480 ≤ length buf.old }
+    requires { at + 6080 ≤ length buf.old }
     ensures text { take result buf.new ≡ take at buf.old ++ each_below entry_at 16 }
-    ensures near { result ≤ at + 4480 }
+    ensures near { result ≤ at + 6080 }
 {
     let mut last = at;
     for place in 0..16 {
@@ -183,7 +236,7 @@ pub fn add_entries(buf: &mut [u8], at: usize) -> usize
             buf,
             last,
             44 + 200 * (place % 6),
-            6 + 16 * (place / 6),
+            6 + 18 * (place / 6),
             mark,
         );
     }
@@ -191,32 +244,27 @@ pub fn add_entries(buf: &mut [u8], at: usize) -> usize
 }
 
 // Adds the line that the legend has more in version two.
-#[tactic(auto, unfolding(crate::specs::Legend::life_line, crate::specs::Legend::life_style, crate::specs::Legend::life_words))]
+#[tactic(auto, unfolding(crate::specs::Legend::life_line, crate::specs::Legend::life_words))]
 fn add_life_line(buf: &mut [u8], at: usize) -> usize
-    requires { at + 1200 ≤ length buf.old }
+    requires { at + 1500 ≤ length buf.old }
     ensures text { take result buf.new ≡ take at buf.old ++ life_line }
-    ensures near { result ≤ at + 1200 }
+    ensures near { result ≤ at + 1500 }
 {
-    let at = add(
-        buf,
-        at,
-        b"<style>.j{fill:#cfe8cf;stroke:#222;stroke-width:.7}.z{fill:#fff}</style>\n",
-    );
-    let at = add_entry(buf, at, 44, 116, Mark::Fork);
-    let at = add_entry(buf, at, 244, 116, Mark::End);
-    let at = add_entry(buf, at, 444, 116, Mark::Join);
+    let at = add_entry(buf, at, 44, 78, Mark::Fork);
+    let at = add_entry(buf, at, 244, 78, Mark::End);
+    let at = add_entry(buf, at, 444, 78, Mark::Join);
     add(
         buf,
         at,
-        b"<text x='644' y='125'>a row goes from its thread's fork to its end; arrows: from the fork on, and from the end to the join</text>\n",
+        b"<text x='644' y='90'>a row goes from its thread's fork to its end; arrows: from the fork on, and from the end to the join</text>\n",
     )
 }
 
 /// Adds what the legend has more in a later version.
 pub fn add_life_legend(buf: &mut [u8], at: usize, version: Version) -> usize
-    requires { at + 1200 ≤ length buf.old }
+    requires { at + 1500 ≤ length buf.old }
     ensures text { take result buf.new ≡ take at buf.old ++ life_legend version }
-    ensures near { result ≤ at + 1200 }
+    ensures near { result ≤ at + 1500 }
 {
     match version {
         Version::One => at,

@@ -6,10 +6,11 @@
 #![tactic(auto)]
 
 pub mod arrows;
+pub mod geometry;
 pub mod legend;
 mod numbers;
 pub mod shapes;
 pub mod tags;
 pub mod view;
 
-pub use view::View;
+pub use view::{Band, Link, Reach, Strip, View};

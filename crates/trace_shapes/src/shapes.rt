@@ -1,15 +1,19 @@
-//! Marks, bars, rows and the legend, written into a buffer behind its first `at` bytes. Each call says where it ended.
-ghost use Rattle.std.specs.Prelude.{◌≡◌, ◌+◌, ◌%◌, ◌<◌, ◌≤◌, ◌^◌, ◌++◌, ◌∷◌, [], length, take, codes};
-ghost use Rattle.trace_shapes.specs.Looks.{look_of};
+//! Marks, bars and rows, written into a buffer after its first `at` bytes. Each call says where it ended.
+ghost use Rattle.std.specs.Prelude.{◌≡◌, ◌+◌, ◌-◌, ◌%◌, ◌<◌, ◌≤◌, ◌^◌, ◌++◌, ◌∷◌, [], length, take, codes};
 ghost use Rattle.trace_board.specs.Marks.{marks};
-ghost use Rattle.trace_shapes.specs.Places.{bar_from, bar_width, bar_x, column, column_x, gap_before, lane_y, row_y};
-ghost use Rattle.trace_shapes.specs.Shapes.{with_number, line_of, place_text, box_text, clause_word, mark_text, failed_text, end_words, span_text, bar_box, bar_text, taken_text, wait_name, wait_text, row_text, number_text, object_text, object_if, stripes_text, stripes_if, swatch_text, painted_text};
+ghost use Rattle.trace_shapes.specs.Looks.{look_of};
+ghost use Rattle.trace_shapes.specs.Places.{bar_from, bar_width, bar_x, column_x, event_x, lane_y, mark_y, row_y, row_step, row_height, wait_x, wait_end};
+ghost use Rattle.trace_shapes.specs.Shapes.{with_number, line_of, place_text, box_text, clause_word, mark_text, failed_text, end_words, span_text, giver_text, given_text, bar_box, bar_name, bar_text, taken_text, wait_name, wait_name_if, wait_box, wait_text, row_name, row_text, number_text, digits_of, number_left, object_text, object_if};
 
-use crate::legend::look_of;
+use crate::geometry::{
+    AXIS, BAR_GAP, COLUMN, DIGIT_LEFT, DIGITS_END, LANE, LANE_TOP, LEFT, LETTER_LINE, MARK_TOP,
+    MIDDLE, NAME_LEFT, NAME_LINE, NAMED_WAIT, ROW, ROW_GAP, WAIT_LINE, WAIT_TOP,
+};
+use crate::legend::{has_number, look_of};
 use crate::tags::{add_box, add_line, add_place, add_with_number};
-use crate::view::{View, column_of};
+use crate::view::{Band, Reach, Strip};
 use larch_actions::{Broken, Event};
-use trace_board::history::{Effect, Origin};
+use trace_board::history::Origin;
 use trace_board::marks::{Mark, Marks};
 use trace_core::add;
 
@@ -18,23 +22,49 @@ pub fn x_of(column: u64) -> u64
     requires { column < 2 ^ 42 }
     ensures { result ≡ column_x column }
 {
-    44 + 12 * column
+    LEFT + COLUMN * column
+}
+
+/// The left edge of an event in its band.
+pub fn event_x(band: &Band, place: u64) -> u64
+    requires { place < 2 ^ 42 }
+    ensures x { result ≡ event_x band.now place }
+    ensures small { result < 2 ^ 48 }
+{
+    x_of(place.saturating_sub(band.start))
+}
+
+/// How far below one another the rows stand.
+pub fn row_step(lanes: u8) -> u64
+    ensures step { result ≡ row_step lanes }
+    ensures small { result < 2 ^ 12 }
+    ensures large { 26 ≤ result }
+{
+    ROW + LANE * u64::from(lanes)
 }
 
 /// The upper edge of the row of a thread.
-pub fn y_of(thread: u32) -> u64
-    ensures y { result ≡ row_y thread }
-    ensures small { result < 2 ^ 40 }
+pub fn row_y(band: &Band, thread: u32) -> u64
+    ensures y { result ≡ row_y band.now thread }
+    ensures small { result < 2 ^ 45 }
 {
-    18 + 34 * u64::from(thread)
+    AXIS + row_step(band.lanes) * u64::from(thread)
+}
+
+/// The upper edge of the marks of a thread.
+pub fn mark_y(band: &Band, thread: u32) -> u64
+    ensures y { result ≡ mark_y band.now thread }
+    ensures small { result < 2 ^ 46 }
+{
+    row_y(band, thread) + MARK_TOP
 }
 
 // The upper edge of a lane of bars in the row of a thread.
-fn lane_of(thread: u32, lane: u32) -> u64
-    ensures y { result ≡ lane_y thread lane }
-    ensures small { result < 2 ^ 42 }
+fn lane_y(band: &Band, thread: u32, lane: u32) -> u64
+    ensures y { result ≡ lane_y band.now thread lane }
+    ensures small { result < 2 ^ 46 }
 {
-    19 + y_of(thread) + 3 * u64::from(lane)
+    row_y(band, thread) + LANE_TOP + LANE * u64::from(lane)
 }
 
 /// The word of a clause.
@@ -72,12 +102,13 @@ fn add_title(buf: &mut [u8], at: usize, place: u64, e: &Event) -> usize
 }
 
 // Adds the place of an event's mark.
-fn add_mark_place(buf: &mut [u8], at: usize, view: &View, place: u64, e: &Event) -> usize
-    requires { at + 60 ≤ length buf.old }
-    ensures text { take result buf.new ≡ take at buf.old ++ place_text (column_x (column view.now place)) (row_y e.now.thread.0) }
+fn add_mark_place(buf: &mut [u8], at: usize, band: &Band, place: u64, e: &Event) -> usize
+    requires place { place < 2 ^ 42 }
+    requires room { at + 60 ≤ length buf.old }
+    ensures text { take result buf.new ≡ take at buf.old ++ place_text (event_x band.now place) (mark_y band.now e.now.thread.0) }
     ensures near { result ≤ at + 60 }
 {
-    add_place(buf, at, x_of(column_of(view, place)), y_of(e.thread.0))
+    add_place(buf, at, event_x(band, place), mark_y(band, e.thread.0))
 }
 
 /// Adds the mark of an event, which shows this.
@@ -85,56 +116,87 @@ fn add_mark_place(buf: &mut [u8], at: usize, view: &View, place: u64, e: &Event)
 pub fn add_mark(
     buf: &mut [u8],
     at: usize,
-    view: &View,
+    band: &Band,
     place: u64,
     e: &Event,
     shown: &Marks,
 ) -> usize
     requires same { shown.now ≡ marks e.now }
+    requires place { place < 2 ^ 42 }
     requires room { at + 1600 ≤ length buf.old }
-    ensures text { take result buf.new ≡ take at buf.old ++ mark_text view.now place e.now }
+    ensures text { take result buf.new ≡ take at buf.old ++ mark_text band.now place e.now }
     ensures near { result ≤ at + 1600 }
 {
     let at = add_use(buf, at, shown.mark);
-    let at = add_mark_place(buf, at, view, place, e);
+    let at = add_mark_place(buf, at, band, place, e);
     let at = add_title(buf, at, place, e);
     add(buf, at, b"</title></use>\n")
 }
 
+// How many digits a small number has.
+fn digits_of(k: u32) -> u64
+    ensures { result ≡ digits_of k }
+{
+    if k < 10 {
+        1
+    } else if k < 100 {
+        2
+    } else {
+        3
+    }
+}
+
+// Where a number stands in its mark.
+fn number_left(k: u32) -> u64
+    ensures left { result ≡ number_left k }
+    ensures small { result < 100 }
+{
+    if k < 10 { DIGIT_LEFT } else { DIGITS_END }
+}
+
 // Adds the number of an event's object.
 #[tactic(auto, unfolding(crate::specs::Shapes::object_text))]
-fn add_object(buf: &mut [u8], at: usize, view: &View, place: u64, e: &Event, shown: &Marks) -> usize
+fn add_object(
+    buf: &mut [u8],
+    at: usize,
+    band: &Band,
+    place: u64,
+    e: &Event,
+    shown: &Marks,
+) -> usize
     requires same { shown.now ≡ marks e.now }
-    requires room { at + 120 ≤ length buf.old }
-    ensures text { take result buf.new ≡ take at buf.old ++ object_text view.now place e.now }
-    ensures near { result ≤ at + 120 }
+    requires place { place < 2 ^ 42 }
+    requires room { at + 140 ≤ length buf.old }
+    ensures text { take result buf.new ≡ take at buf.old ++ object_text band.now place e.now }
+    ensures near { result ≤ at + 140 }
 {
-    let x = x_of(column_of(view, place)) + 5;
-    let y = y_of(e.thread.0) + 18;
-    let at = add(buf, at, b"<text class='s");
+    let x = event_x(band, place) + number_left(shown.object);
+    let y = row_y(band, e.thread.0) + LETTER_LINE;
+    let at = add_with_number(buf, at, b"<text class='s", digits_of(shown.object));
     let at = add_place(buf, at, x, y);
     let at = add_with_number(buf, at, b"'>", u64::from(shown.object));
     add(buf, at, b"</text>\n")
 }
 
-/// Adds the number of an event's object, but for the ends of a wait.
+/// Adds the number of an event's object, where its mark has one.
 pub fn add_object_if(
     buf: &mut [u8],
     at: usize,
-    view: &View,
+    band: &Band,
     place: u64,
     e: &Event,
     shown: &Marks,
 ) -> usize
     requires same { shown.now ≡ marks e.now }
-    requires room { at + 120 ≤ length buf.old }
-    ensures text { take result buf.new ≡ take at buf.old ++ object_if view.now place e.now (marks e.now).wait }
-    ensures near { result ≤ at + 120 }
+    requires place { place < 2 ^ 42 }
+    requires room { at + 140 ≤ length buf.old }
+    ensures text { take result buf.new ≡ take at buf.old ++ object_if band.now place e.now }
+    ensures near { result ≤ at + 140 }
 {
-    match shown.wait {
-        Effect::Begins(_) => at,
-        Effect::Ends(_) => at,
-        Effect::Stays => add_object(buf, at, view, place, e, shown),
+    if has_number(shown.mark) {
+        add_object(buf, at, band, place, e, shown)
+    } else {
+        at
     }
 }
 
@@ -153,17 +215,18 @@ fn add_why(buf: &mut [u8], at: usize, why: Broken) -> usize
 pub fn add_failed(
     buf: &mut [u8],
     at: usize,
-    view: &View,
+    band: &Band,
     place: u64,
     e: &Event,
     why: Broken,
 ) -> usize
-    requires { at + 1600 ≤ length buf.old }
-    ensures text { take result buf.new ≡ take at buf.old ++ failed_text view.now place e.now why }
+    requires place { place < 2 ^ 42 }
+    requires room { at + 1600 ≤ length buf.old }
+    ensures text { take result buf.new ≡ take at buf.old ++ failed_text band.now place e.now why }
     ensures near { result ≤ at + 1600 }
 {
     let at = add(buf, at, b"<use href='#F");
-    let at = add_mark_place(buf, at, view, place, e);
+    let at = add_mark_place(buf, at, band, place, e);
     let at = add_title(buf, at, place, e);
     let at = add_why(buf, at, why);
     add(buf, at, b"</title></use>\n")
@@ -183,290 +246,279 @@ fn add_end_words(buf: &mut [u8], at: usize, ended: bool, to: u64) -> usize
     }
 }
 
-// Adds the end of a bar's title.
+// Adds of which thread, and from which event to which, a bar is.
 #[tactic(auto, unfolding(crate::specs::Shapes::span_text))]
-fn add_span(buf: &mut [u8], at: usize, o: &Origin, ended: bool, to: u64) -> usize
-    requires { at + 150 ≤ length buf.old }
-    ensures text { take result buf.new ≡ take at buf.old ++ span_text o.now ended to }
-    ensures near { result ≤ at + 150 }
+fn add_span(buf: &mut [u8], at: usize, of: &[u8], reach: &Reach, o: &Origin) -> usize
+    requires short { length of.now ≤ 20 }
+    requires room { at + 140 ≤ length buf.old }
+    ensures text { take result buf.new ≡ take at buf.old ++ span_text of.now reach.now o.now }
+    ensures near { result ≤ at + 140 }
 {
-    let at = add_with_number(buf, at, b" t", u64::from(o.thread.0));
+    let at = add_with_number(buf, at, of, u64::from(o.thread.0));
     let at = add_with_number(buf, at, b" from event ", o.place);
-    let at = add_end_words(buf, at, ended, to);
-    add(buf, at, b"</title></rect>\n")
+    add_end_words(buf, at, reach.ended, reach.to)
 }
 
-// The first column of a bar in a band.
-fn from_of(start: u64, o: &Origin, to: u64) -> u64
-    ensures from { result ≡ bar_from start o.now to }
-    ensures before { result ≤ to }
+// Adds which event gave the mutex back before.
+#[tactic(auto, unfolding(crate::specs::Shapes::giver_text))]
+fn add_giver(buf: &mut [u8], at: usize, o: &Origin) -> usize
+    requires { at + 80 ≤ length buf.old }
+    ensures text { take result buf.new ≡ take at buf.old ++ giver_text o.now }
+    ensures near { result ≤ at + 80 }
 {
-    o.place.max(start).min(to)
+    let at = add_with_number(buf, at, b", after event ", o.place);
+    let at = add_with_number(buf, at, b" of t", u64::from(o.thread.0));
+    add(buf, at, b" gave it back")
 }
 
-// The gap before a bar, where what it shows begins in this band.
-fn gap_of(start: u64, o: &Origin) -> u64
-    ensures { result ≡ gap_before start o.now }
+// The same, where it was one of another thread than this.
+fn add_given(buf: &mut [u8], at: usize, t: u32, given: Option<Origin>) -> usize
+    requires { at + 80 ≤ length buf.old }
+    ensures text { take result buf.new ≡ take at buf.old ++ given_text t given }
+    ensures near { result ≤ at + 80 }
 {
-    if start <= o.place { 2 } else { 0 }
+    match given {
+        Some(o) => {
+            if o.thread.0 == t {
+                at
+            } else {
+                add_giver(buf, at, &o)
+            }
+        }
+        None => at,
+    }
+}
+
+// The first event of a bar that its band shows.
+fn from_of(reach: &Reach, o: &Origin) -> u64
+    ensures from { result ≡ bar_from reach.now o.now }
+    ensures before { result ≤ reach.now.to }
+{
+    o.place.max(reach.band.start).min(reach.to)
 }
 
 // The left edge of a bar.
-fn left_of(start: u64, o: &Origin, to: u64) -> u64
-    requires { to < 2 ^ 42 }
-    ensures { result ≡ bar_x start o.now to }
+fn left_of(reach: &Reach, o: &Origin) -> u64
+    requires { reach.now.to < 2 ^ 42 }
+    ensures left { result ≡ bar_x reach.now o.now }
+    ensures small { result < 2 ^ 48 }
 {
-    x_of(from_of(start, o, to).saturating_sub(start)) + gap_of(start, o)
+    event_x(&reach.band, from_of(reach, o))
 }
 
 // The width of a bar.
-fn width_of(start: u64, o: &Origin, ended: bool, to: u64) -> u64
-    requires { to < 2 ^ 42 }
-    ensures { result ≡ bar_width start o.now ended to }
+fn width_of(reach: &Reach, o: &Origin) -> u64
+    requires { reach.now.to < 2 ^ 42 }
+    ensures { result ≡ bar_width reach.now o.now }
 {
-    let after = if ended { 2 } else { 0 };
-    (12 * (to - from_of(start, o, to))).saturating_sub(gap_of(start, o) + after)
+    let after = if reach.ended { BAR_GAP } else { 0 };
+    (COLUMN * (reach.to - from_of(reach, o))).saturating_sub(after)
 }
 
-// Adds the place and the width of a bar in a lane.
+// Adds where a bar stands.
 #[tactic(auto, unfolding(crate::specs::Shapes::bar_box))]
-fn add_bar_box(
-    buf: &mut [u8],
-    at: usize,
-    start: u64,
-    lane: u32,
-    o: &Origin,
-    ended: bool,
-    to: u64,
-) -> usize
+fn add_bar_box(buf: &mut [u8], at: usize, reach: &Reach, strip: &Strip) -> usize
+    requires place { reach.now.to < 2 ^ 42 }
     requires room { at + 100 ≤ length buf.old }
-    requires place { to < 2 ^ 42 }
-    ensures text { take result buf.new ≡ take at buf.old ++ bar_box start lane o.now ended to }
+    ensures text { take result buf.new ≡ take at buf.old ++ bar_box reach.now strip.now }
     ensures near { result ≤ at + 100 }
 {
-    let x = left_of(start, o, to);
-    let y = lane_of(o.thread.0, lane);
-    let width = width_of(start, o, ended, to);
+    let x = left_of(reach, &strip.since);
+    let y = lane_y(&reach.band, strip.since.thread.0, strip.lane);
+    let width = width_of(reach, &strip.since);
     add_box(buf, at, x, y, width)
 }
 
-/// Adds the bar of a mutex in the band that begins at the event `start`, up to the event before `to`, in this lane.
+// Adds the end of a bar's tag, and its name.
+#[tactic(auto, unfolding(crate::specs::Shapes::bar_name))]
+fn add_bar_name(buf: &mut [u8], at: usize, name: &[u8], reach: &Reach, strip: &Strip) -> usize
+    requires place { reach.now.to < 2 ^ 42 }
+    requires short { length name.now ≤ 4 }
+    requires room { at + 130 ≤ length buf.old }
+    ensures text { take result buf.new ≡ take at buf.old ++ bar_name name.now reach.now strip.now }
+    ensures near { result ≤ at + 130 }
+{
+    let x = left_of(reach, &strip.since) + NAME_LEFT;
+    let y = lane_y(&reach.band, strip.since.thread.0, strip.lane) + NAME_LINE;
+    let at = add(buf, at, b"</title></rect><text class='x");
+    let at = add_place(buf, at, x, y);
+    let at = add_with_number(buf, at, name, u64::from(strip.number));
+    add(buf, at, b"</text>\n")
+}
+
+/// Adds the bar of a mutex.
 #[tactic(auto, unfolding(crate::specs::Shapes::bar_text))]
-pub fn add_bar(
-    buf: &mut [u8],
-    at: usize,
-    start: u64,
-    mutex: u32,
-    lane: u32,
-    o: &Origin,
-    ended: bool,
-    to: u64,
-) -> usize
-    requires room { at + 350 ≤ length buf.old }
-    requires place { to < 2 ^ 42 }
-    ensures text { take result buf.new ≡ take at buf.old ++ bar_text start mutex lane o.now ended to }
-    ensures near { result ≤ at + 350 }
+pub fn add_bar(buf: &mut [u8], at: usize, reach: &Reach, strip: &Strip) -> usize
+    requires place { reach.now.to < 2 ^ 42 }
+    requires room { at + 550 ≤ length buf.old }
+    ensures text { take result buf.new ≡ take at buf.old ++ bar_text reach.now strip.now }
+    ensures near { result ≤ at + 550 }
 {
-    let m = u64::from(mutex);
+    let m = u64::from(strip.number);
     let at = add_with_number(buf, at, b"<rect class='m", m);
-    let at = add_bar_box(buf, at, start, lane, o, ended, to);
-    let at = add_with_number(buf, at, b"' height='3'><title>m", m);
-    let at = add(buf, at, b" held by");
-    add_span(buf, at, o, ended, to)
+    let at = add_bar_box(buf, at, reach, strip);
+    let at = add_with_number(buf, at, b"' height='12' rx='2'><title>m", m);
+    let at = add_span(buf, at, b" held by t", reach, &strip.since);
+    let at = add_given(buf, at, strip.since.thread.0, strip.given);
+    add_bar_name(buf, at, b"'>m", reach, strip)
 }
 
-/// Adds the bar of a semaphore, likewise.
+/// Adds the bar of a semaphore.
 #[tactic(auto, unfolding(crate::specs::Shapes::taken_text))]
-pub fn add_taken_bar(
-    buf: &mut [u8],
-    at: usize,
-    start: u64,
-    sem: u32,
-    lane: u32,
-    o: &Origin,
-    ended: bool,
-    to: u64,
-) -> usize
-    requires room { at + 350 ≤ length buf.old }
-    requires place { to < 2 ^ 42 }
-    ensures text { take result buf.new ≡ take at buf.old ++ taken_text start sem lane o.now ended to }
-    ensures near { result ≤ at + 350 }
+pub fn add_taken_bar(buf: &mut [u8], at: usize, reach: &Reach, strip: &Strip) -> usize
+    requires place { reach.now.to < 2 ^ 42 }
+    requires room { at + 550 ≤ length buf.old }
+    ensures text { take result buf.new ≡ take at buf.old ++ taken_text reach.now strip.now }
+    ensures near { result ≤ at + 550 }
 {
+    let s = u64::from(strip.number);
     let at = add(buf, at, b"<rect class='e");
-    let at = add_bar_box(buf, at, start, lane, o, ended, to);
-    let at = add_with_number(buf, at, b"' height='3'><title>s", u64::from(sem));
-    let at = add(buf, at, b" taken by");
-    add_span(buf, at, o, ended, to)
+    let at = add_bar_box(buf, at, reach, strip);
+    let at = add_with_number(buf, at, b"' height='12' rx='2'><title>s", s);
+    let at = add_span(buf, at, b" taken by t", reach, &strip.since);
+    add_bar_name(buf, at, b"'>s", reach, strip)
 }
 
-// Adds the number of the condition of a wait.
+// The left edge of a wait.
+fn wait_x(reach: &Reach, o: &Origin) -> u64
+    requires { reach.now.to < 2 ^ 42 }
+    ensures x { result ≡ wait_x reach.now o.now }
+    ensures small { result < 2 ^ 49 }
+{
+    if reach.band.start <= o.place {
+        event_x(&reach.band, o.place.min(reach.to)) + COLUMN
+    } else {
+        LEFT - BAR_GAP
+    }
+}
+
+// The right edge of a wait.
+fn wait_end(reach: &Reach) -> u64
+    requires { reach.now.to < 2 ^ 42 }
+    ensures { result ≡ wait_end reach.now }
+{
+    if reach.ended {
+        event_x(&reach.band, reach.to.saturating_sub(1)) - 1
+    } else {
+        event_x(&reach.band, reach.to)
+    }
+}
+
+// Adds the name of the condition of a wait.
 #[tactic(auto, unfolding(crate::specs::Shapes::wait_name))]
-fn add_wait_name(buf: &mut [u8], at: usize, start: u64, o: &Origin, to: u64) -> usize
+fn add_wait_name(buf: &mut [u8], at: usize, reach: &Reach, o: &Origin) -> usize
+    requires place { reach.now.to < 2 ^ 42 }
     requires room { at + 120 ≤ length buf.old }
-    requires place { to < 2 ^ 42 }
-    ensures text { take result buf.new ≡ take at buf.old ++ wait_name start o.now to }
+    ensures text { take result buf.new ≡ take at buf.old ++ wait_name reach.now o.now }
     ensures near { result ≤ at + 120 }
 {
-    let x = left_of(start, o, to) + 2;
-    let y = y_of(o.thread.0) + 18;
+    let x = wait_x(reach, o) + NAME_LEFT;
+    let y = row_y(&reach.band, o.thread.0) + WAIT_TOP + WAIT_LINE;
     let at = add(buf, at, b"<text class='d");
     let at = add_place(buf, at, x, y);
     let at = add_with_number(buf, at, b"'>c", u64::from(o.object));
     add(buf, at, b"</text>\n")
 }
 
-// Adds the box of the bar of a wait.
-fn add_wait_box(buf: &mut [u8], at: usize, start: u64, o: &Origin, ended: bool, to: u64) -> usize
+// The same, where there is room for it.
+fn add_wait_name_if(buf: &mut [u8], at: usize, reach: &Reach, o: &Origin) -> usize
+    requires place { reach.now.to < 2 ^ 42 }
     requires room { at + 120 ≤ length buf.old }
-    requires place { to < 2 ^ 42 }
-    ensures text { take result buf.new ≡ take at buf.old ++ (codes "<rect class='h" ++
-        box_text (bar_x start o.now to) (row_y o.now.thread.0 + 12) (bar_width start o.now ended to)) }
+    ensures text { take result buf.new ≡ take at buf.old ++ wait_name_if reach.now o.now }
     ensures near { result ≤ at + 120 }
 {
-    let x = left_of(start, o, to);
-    let width = width_of(start, o, ended, to);
-    let y = y_of(o.thread.0) + 12;
+    let width = wait_end(reach).saturating_sub(wait_x(reach, o));
+    if width < NAMED_WAIT {
+        at
+    } else {
+        add_wait_name(buf, at, reach, o)
+    }
+}
+
+// Adds the box of a wait.
+#[tactic(auto, unfolding(crate::specs::Shapes::wait_box))]
+fn add_wait_box(buf: &mut [u8], at: usize, reach: &Reach, o: &Origin) -> usize
+    requires place { reach.now.to < 2 ^ 42 }
+    requires room { at + 120 ≤ length buf.old }
+    ensures text { take result buf.new ≡ take at buf.old ++ wait_box reach.now o.now }
+    ensures near { result ≤ at + 120 }
+{
+    let x = wait_x(reach, o);
+    let y = row_y(&reach.band, o.thread.0) + WAIT_TOP;
+    let width = wait_end(reach).saturating_sub(x);
     let at = add(buf, at, b"<rect class='h");
     add_box(buf, at, x, y, width)
 }
 
-/// Adds the bar of a wait, likewise.
+/// Adds a wait.
 #[tactic(auto, unfolding(crate::specs::Shapes::wait_text))]
-pub fn add_wait_bar(
-    buf: &mut [u8],
-    at: usize,
-    start: u64,
-    o: &Origin,
-    ended: bool,
-    to: u64,
-) -> usize
-    requires room { at + 450 ≤ length buf.old }
-    requires place { to < 2 ^ 42 }
-    ensures text { take result buf.new ≡ take at buf.old ++ wait_text start o.now ended to }
-    ensures near { result ≤ at + 450 }
+pub fn add_wait_bar(buf: &mut [u8], at: usize, reach: &Reach, o: &Origin) -> usize
+    requires place { reach.now.to < 2 ^ 42 }
+    requires room { at + 480 ≤ length buf.old }
+    ensures text { take result buf.new ≡ take at buf.old ++ wait_text reach.now o.now }
+    ensures near { result ≤ at + 480 }
 {
-    let at = add_wait_box(buf, at, start, o, ended, to);
-    let at = add_with_number(
-        buf,
-        at,
-        b"' height='7'><title>wait on c",
-        u64::from(o.object),
-    );
-    let at = add(buf, at, b" of");
-    let at = add_span(buf, at, o, ended, to);
-    add_wait_name(buf, at, start, o, to)
+    let c = u64::from(o.object);
+    let at = add_wait_box(buf, at, reach, o);
+    let at = add_with_number(buf, at, b"' height='9'><title>wait on c", c);
+    let at = add_span(buf, at, b" of t", reach, o);
+    let at = add(buf, at, b"</title></rect>\n");
+    add_wait_name_if(buf, at, reach, o)
 }
 
-/// Adds the row of a thread.
-#[tactic(auto, unfolding(crate::specs::Shapes::row_text))]
-pub fn add_row(buf: &mut [u8], at: usize, thread: u32) -> usize
-    requires { at + 200 ≤ length buf.old }
-    ensures text { take result buf.new ≡ take at buf.old ++ row_text thread }
-    ensures near { result ≤ at + 200 }
+/// Adds the end of a row's tag, and its name.
+#[tactic(auto, unfolding(crate::specs::Shapes::row_name))]
+pub fn add_row_name(buf: &mut [u8], at: usize, band: &Band, thread: u32) -> usize
+    requires { at + 120 ≤ length buf.old }
+    ensures text { take result buf.new ≡ take at buf.old ++ row_name band.now thread }
+    ensures near { result ≤ at + 120 }
 {
-    let at = add_with_number(
-        buf,
-        at,
-        b"<rect class='r' x='40' width='1208' height='32' y='",
-        y_of(thread),
-    );
-    let at = add_with_number(buf, at, b"'/><text x='6' y='", 20 + y_of(thread));
+    let y = row_y(band, thread) + LETTER_LINE;
+    let at = add_with_number(buf, at, b"'/><text class='y' x='6' y='", y);
     let at = add_with_number(buf, at, b"'>t", u64::from(thread));
     add(buf, at, b"</text>\n")
 }
 
-/// Adds the number of each tenth event.
+/// How high a row is.
+pub fn row_height(lanes: u8) -> u64
+    ensures height { result ≡ row_height lanes }
+    ensures small { result < 2 ^ 12 }
+{
+    row_step(lanes) - ROW_GAP
+}
+
+/// Adds the row of a thread.
+#[tactic(auto, unfolding(crate::specs::Shapes::row_text))]
+pub fn add_row(buf: &mut [u8], at: usize, band: &Band, thread: u32) -> usize
+    requires { at + 250 ≤ length buf.old }
+    ensures text { take result buf.new ≡ take at buf.old ++ row_text band.now thread }
+    ensures near { result ≤ at + 250 }
+{
+    let height = row_height(band.lanes);
+    let at = add_with_number(
+        buf,
+        at,
+        b"<rect class='r' x='40' width='1208' height='",
+        height,
+    );
+    let at = add_with_number(buf, at, b"' y='", row_y(band, thread));
+    add_row_name(buf, at, band, thread)
+}
+
+/// Adds the number of each fifth event.
 #[tactic(auto, unfolding(crate::specs::Shapes::number_text))]
-pub fn add_label(buf: &mut [u8], at: usize, view: &View, place: u64) -> usize
-    requires { at + 100 ≤ length buf.old }
-    ensures text { take result buf.new ≡ take at buf.old ++ number_text view.now place }
+pub fn add_label(buf: &mut [u8], at: usize, band: &Band, place: u64) -> usize
+    requires place { place < 2 ^ 42 }
+    requires room { at + 100 ≤ length buf.old }
+    ensures text { take result buf.new ≡ take at buf.old ++ number_text band.now place }
     ensures near { result ≤ at + 100 }
 {
-    let column = column_of(view, place);
-    if column % 10 == 0 {
-        let at = add_with_number(buf, at, b"<text class='n' y='12' x='", x_of(column));
+    if place.saturating_sub(band.start) % 5 == 0 {
+        let x = event_x(band, place) + MIDDLE;
+        let at = add_with_number(buf, at, b"<text class='n' y='11' x='", x);
         let at = add_with_number(buf, at, b"'>", place);
         add(buf, at, b"</text>\n")
     } else {
         at
     }
-}
-
-// Adds the stripes of a mutex.
-#[tactic(auto, unfolding(crate::specs::Shapes::stripes_text))]
-fn add_stripes(buf: &mut [u8], at: usize, m: u64) -> usize
-    requires { at + 330 ≤ length buf.old }
-    ensures text { take result buf.new ≡ take at buf.old ++ stripes_text m }
-    ensures near { result ≤ at + 330 }
-{
-    let at = add_stripes_start(buf, at, m);
-    let at = add_with_number(buf, at, b"'/><use href='#q", m / 7);
-    let at = add_with_number(buf, at, b"'/></pattern>\n<style>.m", m);
-    let at = add_with_number(buf, at, b"{fill:url(#m", m);
-    add(buf, at, b")}</style>\n")
-}
-
-// Adds the name and the colour of the stripes of a mutex.
-fn add_stripes_start(buf: &mut [u8], at: usize, m: u64) -> usize
-    requires { at + 180 ≤ length buf.old }
-    ensures text { take result buf.new ≡ take at buf.old ++
-        (with_number (codes "<pattern width='8' height='8' patternUnits='userSpaceOnUse' id='m") m
-        ++ with_number (codes "'><rect width='8' height='8' class='m") (m % 7)) }
-    ensures near { result ≤ at + 160 }
-{
-    let at = add_with_number(
-        buf,
-        at,
-        b"<pattern width='8' height='8' patternUnits='userSpaceOnUse' id='m",
-        m,
-    );
-    add_with_number(buf, at, b"'><rect width='8' height='8' class='m", m % 7)
-}
-
-// Adds the stripes of a mutex past the seventh.
-fn add_stripes_if(buf: &mut [u8], at: usize, mutex: u32) -> usize
-    requires { at + 330 ≤ length buf.old }
-    ensures text { take result buf.new ≡ take at buf.old ++ stripes_if mutex }
-    ensures near { result ≤ at + 330 }
-{
-    if mutex < 7 {
-        at
-    } else {
-        add_stripes(buf, at, u64::from(mutex))
-    }
-}
-
-/// Adds what makes the colour of a mutex, and its place in the legend.
-pub fn add_painted(buf: &mut [u8], at: usize, mutex: u32) -> usize
-    requires { at + 600 ≤ length buf.old }
-    ensures text { take result buf.new ≡ take at buf.old ++ painted_text mutex }
-    ensures near { result ≤ at + 600 }
-{
-    let at = add_stripes_if(buf, at, mutex);
-    add_swatch(buf, at, mutex)
-}
-
-// Adds the colour of a mutex to the legend.
-#[tactic(auto, unfolding(crate::specs::Shapes::swatch_text))]
-fn add_swatch(buf: &mut [u8], at: usize, mutex: u32) -> usize
-    requires { at + 250 ≤ length buf.old }
-    ensures text { take result buf.new ≡ take at buf.old ++ swatch_text mutex }
-    ensures near { result ≤ at + 250 }
-{
-    let m = u64::from(mutex);
-    let at = add_with_number(buf, at, b"<rect width='11' height='11' class='m", m);
-    let at = add_place(buf, at, 44 + 43 * (m % 28), 72 + 14 * (m / 28));
-    let at = add_swatch_place(buf, at, 58 + 43 * (m % 28), 81 + 14 * (m / 28));
-    let at = add_with_number(buf, at, b"'>m", m);
-    add(buf, at, b"</text>\n")
-}
-
-// Adds the place of a name in the legend.
-fn add_swatch_place(buf: &mut [u8], at: usize, x: u64, y: u64) -> usize
-    requires { at + 80 ≤ length buf.old }
-    ensures text { take result buf.new ≡ take at buf.old ++ (with_number (codes "'/><text x='") x ++ with_number (codes "' y='") y) }
-    ensures near { result ≤ at + 60 }
-{
-    let at = add_with_number(buf, at, b"'/><text x='", x);
-    add_with_number(buf, at, b"' y='", y)
 }

@@ -1,6 +1,11 @@
 //! Which events are drawn, and where.
 ghost use Rattle.std.specs.Prelude.{◌≡◌, ◌<◌, ◌≤◌, ◌+◌, ◌-◌, ◌^◌, ◌↔◌, IsTrue, true, false};
-ghost use Rattle.trace_shapes.specs.Places.{in_view, column, is_open, bands, shown};
+ghost use Rattle.larch_actions.specs.Layout.{IsLawful};
+ghost use Rattle.trace_shapes.specs.Places.{in_view, column, is_open, bands, shown, lanes_of, band_of};
+
+use crate::geometry::{BAND, LANES};
+use larch_actions::Layout;
+use trace_board::history::Origin;
 
 /// What of a trace is drawn: the events from `first` on and before `end`, and whether a cycle of its lock order is ringed.
 #[derive(Clone, Copy, Debug, PartialEq, Eq)]
@@ -8,6 +13,39 @@ pub struct View {
     pub first: u64,
     pub end: u64,
     pub ordered: bool,
+}
+
+/// A band: the place of its first event, and how many lanes its rows have.
+#[derive(Clone, Copy)]
+pub struct Band {
+    pub start: u64,
+    pub lanes: u8,
+}
+
+/// How much of a bar its band shows: up to the event before `to`, where the bar ends or goes on.
+#[derive(Clone, Copy)]
+pub struct Reach {
+    pub band: Band,
+    pub to: u64,
+    pub ended: bool,
+}
+
+/// What a bar shows: the number of a mutex or a semaphore, its lane, the event since which it is held or taken, and the one that gave it back before.
+#[derive(Clone, Copy)]
+pub struct Strip {
+    pub number: u32,
+    pub lane: u32,
+    pub since: Origin,
+    pub given: Option<Origin>,
+}
+
+/// An arrow from an event to the event `place` of the thread `to`, in the band of the latter.
+#[derive(Clone, Copy)]
+pub struct Link {
+    pub band: Band,
+    pub place: u64,
+    pub to: u32,
+    pub from: Origin,
 }
 
 /// Whether the event is drawn.
@@ -20,17 +58,17 @@ pub fn is_in_view(view: &View, place: u64) -> bool
 /// The column of the event in its band.
 pub fn column_of(view: &View, place: u64) -> u64
     ensures column { result ≡ column view.now place }
-    ensures small { result < 100 }
+    ensures small { result < BAND }
     ensures before { result ≤ place }
 {
-    place.saturating_sub(view.first) % 100
+    place.saturating_sub(view.first) % BAND
 }
 
 /// Whether the last band has room for more, after so many events.
 pub fn is_band_open(view: &View, count: u64) -> bool
     ensures { result ≡ is_open view.now count }
 {
-    count < view.end && count.saturating_sub(view.first) % 100 != 0
+    count < view.end && count.saturating_sub(view.first) % BAND != 0
 }
 
 /// How many bands so many events take.
@@ -39,5 +77,24 @@ pub fn count_bands(view: &View, count: u64) -> u64
     ensures bands { result ≡ bands view.now count }
     ensures small { result < 2 ^ 42 }
 {
-    (count.min(view.end).saturating_sub(view.first) + 99) / 100
+    (count.min(view.end).saturating_sub(view.first) + (BAND - 1)) / BAND
+}
+
+/// How many lanes a row has: one for each mutex and semaphore, and at most four.
+pub fn lanes_of(layout: &Layout) -> u8
+    requires { IsLawful layout.now }
+    ensures { result ≡ lanes_of layout.now }
+{
+    (u64::from(layout.mutexes) + u64::from(layout.semaphores)).min(LANES) as u8
+}
+
+/// The band of the event.
+pub fn band_of(layout: &Layout, view: &View, place: u64) -> Band
+    requires { IsLawful layout.now }
+    ensures { result ≡ band_of layout.now view.now place }
+{
+    Band {
+        start: place - column_of(view, place),
+        lanes: lanes_of(layout),
+    }
 }

@@ -1,4 +1,4 @@
-use Rattle.std.proofs.Common.{ℕ, List, ◌+◌, ◌++◌, take, false, ap, sym, ◌∙◌, append-nil, arith}
+use Rattle.std.proofs.Common.{ℕ, List, ◌+◌, ◌++◌, take, ap, sym, ◌∙◌, append-nil, arith}
 use Rattle.trace_board.specs.History.{entry_of}
 use Rattle.trace_shapes.specs.Shapes.{each_below}
 use Rattle.trace_picture.specs.Bands.{wait_if}
@@ -7,15 +7,15 @@ use Rattle.trace_picture.proofs.bands.add_waits.Goals as goal
 
 pub loop-t-init : goal.loop-t-init
 loop-t-init c =
-    let f : ℕ → List ℕ = (λ t. wait_if c.args.start false c.args.to (entry_of c.args.waits.now t)) in
+    let f : ℕ → List ℕ = (λ t. wait_if c.args.reach.now (entry_of c.args.board.now.waits t)) in
     let old = take c.args.at c.args.buf.now in
     record { text = sym (ap (λ l. old ++ l) (each_none f) ∙ append-nil old); near = omega arith }
 
 pub loop-t-preserved : goal.loop-t-preserved
 loop-t-preserved c =
-    let f : ℕ → List ℕ = (λ t. wait_if c.args.start false c.args.to (entry_of c.args.waits.now t)) in
+    let f : ℕ → List ℕ = (λ t. wait_if c.args.reach.now (entry_of c.args.board.now.waits t)) in
     let old = take c.args.at c.args.buf.now in
     record {
-      text = added_more old (take c.loop-t.last c.loop-t.buf) _ (each_below f c.loop-t.t) (f c.loop-t.t) (each_below f (c.loop-t.t + 1)) c.loop-t.invariant.text (c.add_wait_if-last.ensures.text ∙ ap (λ o. take c.loop-t.last c.loop-t.buf ++ wait_if c.args.start false c.args.to o) c.at.ensures) (sym (each_more f c.loop-t.t));
+      text = added_more old (take c.loop-t.last c.loop-t.buf) _ (each_below f c.loop-t.t) (f c.loop-t.t) (each_below f (c.loop-t.t + 1)) c.loop-t.invariant.text c.add_wait_if-last.ensures.text (sym (each_more f c.loop-t.t));
       near = omega (arith, c.loop-t.invariant.near, c.add_wait_if-last.ensures.near);
     }

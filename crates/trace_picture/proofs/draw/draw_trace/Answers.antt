@@ -3,10 +3,10 @@ use Rattle.std.proofs.lemmas.List.{length-replicate}
 use Rattle.trace_picture.proofs.draw.draw_trace.Goals as goal
 
 -- said of any number of bytes, since counting so many takes long
-enough : (n : ℕ) → 450000 ≤ n → 450000 ≤ length (let bytes : List ℕ = replicate n 0 in bytes)
+enough : (n : ℕ) → 458000 ≤ n → 458000 ≤ length (let bytes : List ℕ = replicate n 0 in bytes)
 enough n h = rw length-replicate h
 
-large : 450000 ≤ 458752
+large : 458000 ≤ 458752
 large = omega arith
 
 pub draw_by-requires-clause-large : goal.draw_by-requires-clause-large

@@ -11,4 +11,4 @@ returns-clause-text c =
     let holds = c.height_of_holds.ensures.height in
     let over = c.height_of_overview.ensures.height in
     added_two old _ _ _ _ c.add_with_number-at.ensures.text c.add_over_style.ensures.text
-    ∙ (λ i. old ++ (with_number (codes "</g>\n<style>:root{height:") (c.args.low + 24 + holds i + over i) ++ over_style c.args.layout.now c.args.view.now c.args.count))
+    ∙ (λ i. old ++ (with_number (codes "</g>\n<style>:root{height:") (c.args.low + 28 + holds i + over i) ++ over_style c.args.layout.now c.args.view.now c.args.count))

@@ -6,5 +6,5 @@ use Rattle.trace_shapes.proofs.legend.add_entries.Given as goal
 abbrev pub invariant-loop-place : goal.invariant-loop-place
 invariant-loop-place l = record {
   text : take l.last l.buf ≡ take l.at l.initial.buf ++ each_below entry_at l.place;
-  near : l.last ≤ l.at + 280 * l.place;
+  near : l.last ≤ l.at + 380 * l.place;
 }

@@ -3,4 +3,4 @@ use Rattle.trace_shapes.proofs.shapes.add_bar_box.Goals as goal
 
 pub returns-clause-text : goal.returns-clause-text
 returns-clause-text c =
-    added_bar_box c.args.start c.args.lane c.args.o.now c.args.ended c.args.to c.left_of-x.result c.lane_of-y.result c.width_of-width.result _ _ c.left_of-x.ensures c.lane_of-y.ensures.y c.width_of-width.ensures c.add_box.ensures.text
+    added_bar_box c.args.reach.now c.args.strip.now c.left_of-x.result c.lane_y-y.result c.width_of-width.result _ _ c.left_of-x.ensures.left c.lane_y-y.ensures.y c.width_of-width.ensures c.add_box.ensures.text

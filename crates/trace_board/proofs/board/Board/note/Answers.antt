@@ -1,7 +1,7 @@
 use Rattle.std.proofs.Common.{ap, sym, subst, ◌∙◌}
 use Rattle.trace_board.specs.declared.history.Origin.{Origin}
 use Rattle.trace_board.specs.declared.marks.Marks.{Marks}
-use Rattle.trace_board.specs.History.{changed, turned_about, begun_by, ended_by, entry_of, IsWithin}
+use Rattle.trace_board.specs.History.{changed, begun_by, ended_by, entry_of, IsWithin}
 use Rattle.trace_board.specs.Causes.{moved, cause_of}
 use Rattle.trace_board.specs.declared.history.Effect.{Effect}
 use Rattle.trace_board.specs.declared.history.Effect.TheVariants.{Begins, Ends, Stays}
@@ -10,16 +10,16 @@ use Rattle.trace_board.specs.Rows.{turned, turned_by_semaphore, row_of}
 use Rattle.trace_board.specs.Holds.{lengthened, longest_of}
 use Rattle.trace_board.proofs.board.Board.note.Goals as goal
 
-within_about : (effect : Effect) → IsWithin effect → IsWithin (turned_about effect)
-within_about (Begins k) h = h
-within_about (Ends k) h = h
-within_about Stays h = h
+within_end : (effect : Effect) → IsWithin effect → IsWithin (ended_by effect)
+within_end (Begins k) h = tt
+within_end (Ends k) h = h
+within_end Stays h = h
 
 pub note-requires-8 : goal.note-requires-8
 note-requires-8 c =
     let is = c.marks_of-marks.ensures in
-    let about = c.turned_about.ensures ∙ ap (λ m. turned_about m.mutex) is in
-    subst IsWithin (sym about) (within_about (marks c.args.e.now).mutex c.requires.held)
+    let about = c.ended_by.ensures ∙ ap (λ m. ended_by m.mutex) is in
+    subst IsWithin (sym about) (within_end (marks c.args.e.now).mutex c.requires.held)
 
 pub returns : goal.returns
 returns c =
@@ -34,7 +34,7 @@ returns c =
     let stands = c.note-5.ensures ∙ ap (λ m. moved m.stand (by m) (cause_of b.stands)) is in
     let opens = c.note-6.ensures ∙ ap (λ m. moved m.avail (by m) (cause_of b.opens)) is in
     let alerts = c.note-7.ensures ∙ ap (λ m. moved m.alert (by m) (cause_of b.alerts)) is in
-    let given = c.note-8.ensures ∙ ap (λ t. changed t (by c.marks_of-marks.result) (entry_of b.given)) c.turned_about.ensures ∙ ap (λ m. changed (turned_about m.mutex) (by m) (entry_of b.given)) is in
+    let given = c.note-8.ensures ∙ ap (λ t. changed t (by c.marks_of-marks.result) (entry_of b.given)) c.ended_by.ensures ∙ ap (λ m. changed (ended_by m.mutex) (by m) (entry_of b.given)) is in
     let latest = c.note-10.ensures ∙ ap (λ m. changed (Begins t) (by m) (entry_of b.latest)) is in
     let taken = c.note-9.ensures ∙ ap (λ m. changed m.semaphore (by m) (entry_of b.taken)) is in
     let born = c.note-11.ensures.born ∙ ap (λ m. changed (begun_by m.life) (by m) (entry_of b.lives.born)) is in
