@@ -309,13 +309,7 @@ fn add_bar_ended(buf: &mut [u8], at: usize, reach: &Reach, board: &Board, effect
 }
 
 // Adds the bar of the semaphore that the event makes available.
-fn add_taken_ended(
-    buf: &mut [u8],
-    at: usize,
-    reach: &Reach,
-    board: &Board,
-    effect: Effect,
-) -> usize
+fn add_taken_ended(buf: &mut [u8], at: usize, reach: &Reach, board: &Board, effect: Effect) -> usize
     requires within { IsWithin effect }
     requires few { reach.now.to < 2 ^ 42 }
     requires room { at + 550 ≤ length buf.old }

@@ -101,11 +101,7 @@ fn add_many_if(buf: &mut [u8], at: usize, mutexes: u32) -> usize
     ensures text { take result buf.new ≡ take at buf.old ++ many_if mutexes }
     ensures near { result ≤ at + 2600 }
 {
-    if 7 < mutexes {
-        add_many(buf, at)
-    } else {
-        at
-    }
+    if 7 < mutexes { add_many(buf, at) } else { at }
 }
 
 // Adds the legend.

@@ -40,7 +40,14 @@ fn stands(version: Version, board: &Board, t: u32) -> bool
 }
 
 // Adds the row of the thread, where it has one.
-fn add_row_if(buf: &mut [u8], at: usize, layout: &Layout, band: &Band, board: &Board, t: u32) -> usize
+fn add_row_if(
+    buf: &mut [u8],
+    at: usize,
+    layout: &Layout,
+    band: &Band,
+    board: &Board,
+    t: u32,
+) -> usize
     requires few { t < 256 }
     requires room { at + 250 ≤ length buf.old }
     ensures text { take result buf.new ≡ take at buf.old ++ row_if layout.now.version band.now (kept_of board.now) t }
@@ -147,14 +154,7 @@ fn add_birth(buf: &mut [u8], at: usize, link: &Link) -> usize
 }
 
 // Adds that arrow, where the fork is in the band.
-fn add_birth_if(
-    buf: &mut [u8],
-    at: usize,
-    band: &Band,
-    to: u64,
-    t: u32,
-    o: Option<Origin>,
-) -> usize
+fn add_birth_if(buf: &mut [u8], at: usize, band: &Band, to: u64, t: u32, o: Option<Origin>) -> usize
     requires room { at + 350 ≤ length buf.old }
     requires place { to < 2 ^ 42 }
     ensures text { take result buf.new ≡ take at buf.old ++ birth_if band.now to t o }

@@ -33,12 +33,7 @@ fn add_hold(buf: &mut [u8], at: usize, hold: &Hold) -> usize
     ensures text { take result buf.new ≡ take at buf.old ++ hold_text hold.now }
     ensures near { result ≤ at + 130 }
 {
-    let at = add_with_number(
-        buf,
-        at,
-        b"longest: t",
-        u64::from(hold.since.thread.0),
-    );
+    let at = add_with_number(buf, at, b"longest: t", u64::from(hold.since.thread.0));
     let at = add_with_number(buf, at, b", events: ", hold.length());
     let at = add_with_number(buf, at, b", ", hold.since.place);
     add_hold_end(buf, at, hold)
@@ -99,13 +94,7 @@ fn add_sample(buf: &mut [u8], at: usize, low: u64, mutex: u32) -> usize
     let y = line_y(low, mutex);
     let at = add_with_number(buf, at, b"<rect width='34' height='12' rx='2' class='m", m);
     let at = add_place(buf, at, x, y);
-    let at = add_text_place(
-        buf,
-        at,
-        b"'/><text class='x",
-        x + NAME_LEFT,
-        y + NAME_LINE,
-    );
+    let at = add_text_place(buf, at, b"'/><text class='x", x + NAME_LEFT, y + NAME_LINE);
     let at = add_with_number(buf, at, b"'>m", m);
     add(buf, at, b"</text>")
 }

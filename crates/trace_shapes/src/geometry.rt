@@ -10,6 +10,7 @@ pub const LEFT: u64 = 44;
 pub const MIDDLE: u64 = 11;
 /// The left and the right edge of a row.
 pub const ROW_LEFT: u64 = 40;
+
 pub const ROW_RIGHT: u64 = 1248;
 /// How high the numbers above the rows of a band are.
 pub const AXIS: u64 = 20;
@@ -19,6 +20,7 @@ pub const LINES_TOP: u64 = 17;
 pub const BAND_GAP: u64 = 12;
 /// How far apart two rows without lanes would be, and by how much each lane moves them apart.
 pub const ROW: u64 = 26;
+
 pub const LANE: u64 = 13;
 /// How far apart two rows are.
 pub const ROW_GAP: u64 = 2;
@@ -26,18 +28,25 @@ pub const ROW_GAP: u64 = 2;
 pub const LANES: u64 = 4;
 /// From the upper edge of a row to its marks, to the line on which their letters stand, to a wait and to the first lane.
 pub const MARK_TOP: u64 = 5;
+
 pub const LETTER_LINE: u64 = 17;
+
 pub const WAIT_TOP: u64 = 8;
+
 pub const LANE_TOP: u64 = 21;
 /// How high a mark is.
 pub const MARK_HEIGHT: u64 = 15;
 /// From the left edge of a mark to the middle of a letter that has a number beside it, to a number of one digit, and to the end of a longer one.
 pub const LETTER_LEFT: u64 = 6;
+
 pub const DIGIT_LEFT: u64 = 13;
+
 pub const DIGITS_END: u64 = 21;
 /// From the left and the upper edge of a bar to its name, and from the upper edge of a wait.
 pub const NAME_LEFT: u64 = 4;
+
 pub const NAME_LINE: u64 = 10;
+
 pub const WAIT_LINE: u64 = 8;
 /// How wide a wait is at least that has its name.
 pub const NAMED_WAIT: u64 = 20;
@@ -47,4 +56,5 @@ pub const BAR_GAP: u64 = 2;
 pub const LINE: u64 = 18;
 /// The upper edge of the first band below the legend, in version one and two.
 pub const TOP_ONE: u64 = 86;
+
 pub const TOP_TWO: u64 = 104;

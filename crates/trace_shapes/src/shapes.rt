@@ -156,14 +156,7 @@ fn number_left(k: u32) -> u64
 
 // Adds the number of an event's object.
 #[tactic(auto, unfolding(crate::specs::Shapes::object_text))]
-fn add_object(
-    buf: &mut [u8],
-    at: usize,
-    band: &Band,
-    place: u64,
-    e: &Event,
-    shown: &Marks,
-) -> usize
+fn add_object(buf: &mut [u8], at: usize, band: &Band, place: u64, e: &Event, shown: &Marks) -> usize
     requires same { shown.now ≡ marks e.now }
     requires place { place < 2 ^ 42 }
     requires room { at + 140 ≤ length buf.old }
