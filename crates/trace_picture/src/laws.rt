@@ -31,7 +31,7 @@ pub fn rows_begin()
     ensures { RowsBegin }
 {}
 
-/// An end cuts the row of its thread off behind its own column.
+/// An end cuts the row of its thread off after its own column.
 pub fn rows_end()
     ensures { RowsEnd }
 {}

@@ -65,7 +65,8 @@ fn add_row_if(
 pub fn add_rows(buf: &mut [u8], at: usize, layout: &Layout, band: &Band, board: &Board) -> usize
     requires lawful { IsLawful layout.now }
     requires room { at + 64000 ≤ length buf.old }
-    ensures text { take result buf.new ≡ take at buf.old ++ each_below (row_if layout.now.version band.now (kept_of board.now)) layout.now.threads }
+    ensures text { take result buf.new ≡ take at buf.old ++
+        each_below (row_if layout.now.version band.now (kept_of board.now)) layout.now.threads }
     ensures near { result ≤ at + 64000 }
 {
     let mut last = at;
