@@ -1,4 +1,6 @@
 pub mod Drawing
+pub mod Parts
+pub mod Signals
 pub mod Lines
 pub mod Ringing
 pub mod RowsSeen

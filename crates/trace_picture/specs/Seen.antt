@@ -6,7 +6,7 @@ use Rattle.larch_actions.specs.declared.event.ThreadId.{ThreadId}
 use Rattle.larch_actions.specs.declared.event.Event.{Event}
 use Rattle.larch_actions.specs.declared.event.Action.{Action}
 use Rattle.larch_actions.specs.declared.event.Action.TheVariants.{Acquire, Release, Enqueue, Resume, AlertEnqueue, AlertReturn, AlertRaise, Signal, Broadcast, P, V, Alert, TestAlert, AlertPReturn, AlertPRaise, Fork, End, Join}
-use Rattle.larch_actions.specs.Actions.{Spec, IsRun, MayAct}
+use Rattle.larch_actions.specs.Actions.{Spec, acted, IsRun, MayAct}
 use Rattle.trace_board.specs.declared.history.Origin.{Origin}
 use Rattle.trace_board.specs.declared.history.Effect.TheVariants.{Ends}
 use Rattle.trace_board.specs.declared.rows.Bar.{Bar}
@@ -14,15 +14,17 @@ use Rattle.trace_board.specs.declared.rows.Bar.TheVariants.{Mutex, Semaphore}
 use Rattle.trace_shapes.specs.declared.view.View.{View}
 use Rattle.trace_shapes.specs.Looks.{look_of}
 use Rattle.trace_board.specs.Marks.{marks, marks_of}
-use Rattle.trace_board.specs.Kept.{Kept, kept_since, behind, longest_in, forked_by}
+use Rattle.trace_board.specs.History.{origin_of}
+use Rattle.trace_board.specs.Kept.{Kept, kept_since, behind, longest_in}
 use Rattle.trace_shapes.specs.declared.view.Band.{Band}
 use Rattle.trace_shapes.specs.declared.geometry.TheConstants.{BAND, COLUMN, LEFT, AXIS, MARK_TOP, LANE_TOP, LANE, BAR_GAP, ROW_RIGHT}
 use Rattle.trace_shapes.specs.Places.{in_view, column, band_of, lanes_of, row_step, row_height, bar_x, bar_width}
-use Rattle.trace_shapes.specs.Shapes.{each_below, place_text, box_text, row_text, with_number}
-use Rattle.trace_shapes.specs.Arrows.{link, arrow_text}
+use Rattle.trace_shapes.specs.Shapes.{each_below, place_text, box_text, row_text, given_text, span_text, with_number}
+use Rattle.trace_shapes.specs.declared.view.Shape.TheVariants.{Joined}
+use Rattle.trace_shapes.specs.Arrows.{link, arrow_text, wake_text, fork_text}
 use Rattle.trace_picture.specs.Bands.{up_to, opening, step_text}
 use Rattle.trace_picture.specs.Picture.{end_text}
-use Rattle.trace_board.specs.Laws.{IsSince, IsMadeBy, HasEvent, is_live, is_ended}
+use Rattle.trace_board.specs.Laws.{IsSince, IsMadeBy, is_live, is_ended}
 
 -- the kinds of actions, in the order of the table
 abbrev pub kind_of : Action → ℕ
@@ -132,16 +134,26 @@ JoinsAreDrawn =
     → e.action ≡ Join who → in_view v (length es) ≡ true
     → (o : Origin) × IsMadeBy l.version (λ z. is_ended (z.life who.0)) es s o
     × HasText (step_text l v (kept_since (behind [] es)) (length es) e)
-    (arrow_text (link (band_of l v (length es)) (length es) e.thread.0 o))
+    (arrow_text Joined (link (band_of l v (length es)) (length es) e.thread.0 o))
 
--- The first event of each thread that was forked has, in view, an arrow from its fork.
+-- Each fork in view has, in its own column, an arrow into the row of the thread that it forks.
 abbrev pub ForksAreDrawn : Type 0
 ForksAreDrawn =
-    (l : Layout) (v : View) (es : List Event) (s : Spec) → IsRun l.version es s → (e : Event) → MayAct s e → (o : Origin)
-    → forked_by (kept_since (behind [] es)) e.thread.0 ≡ Some o → in_view v (length es) ≡ true
-    → IsMadeBy l.version (λ z. is_live (z.life e.thread.0)) es s o × (HasEvent e.thread.0 0 (behind [] es) → ⊥)
-    × HasText (step_text l v (kept_since (behind [] es)) (length es) e)
-    (arrow_text (link (band_of l v (length es)) (length es) e.thread.0 o))
+    (l : Layout) (v : View) (k : Kept) (n : ℕ) (e : Event) (who : ThreadId) → e.action ≡ Fork who → in_view v n ≡ true
+    → HasText (step_text l v k n e) (fork_text (band_of l v n) (origin_of n e) who.0)
+
+-- the action is a Signal or a Broadcast of the condition c
+abbrev pub IsSignal : ℕ → Action → Type 0
+IsSignal c (Signal d left) = d.0 ≡ c
+IsSignal c (Broadcast d) = d.0 ≡ c
+IsSignal c _ = ⊥
+
+-- Each thread that a Signal or a Broadcast in view takes out of its condition has an arrow into its row, in the column of that event.
+abbrev pub SignalsAreDrawn : Type 0
+SignalsAreDrawn =
+    (l : Layout) (v : View) (es : List Event) (s : Spec) → IsRun l.version es s → (e : Event) → (c u : ℕ) → IsSignal c e.action
+    → s.members c u ≡ true → (acted e.thread.0 s e.action).members c u ≡ false → u < l.threads → in_view v (length es) ≡ true
+    → HasText (step_text l v (kept_since (behind [] es)) (length es) e) (wake_text (band_of l v (length es)) (origin_of (length es) e) u)
 
 -- The last lines of a picture tell the longest hold of each mutex: by whom, how many events, from which event to which, or that there is none.
 abbrev pub HoldsAreTold : Type 0

@@ -59,9 +59,9 @@ fn legal(events: u64, totals: &Totals) -> Verdict
 // Sends what the buffer holds where that is more than 16 KiB, and says how much it holds then: there is room for another event.
 fn make_room<O: Sink>(buf: &[u8], at: usize, out: &mut O) -> Result<usize, SinkFault>
     requires within { at ≤ length buf.now }
-    requires large { 458000 ≤ length buf.now }
+    requires large { 540000 ≤ length buf.now }
     ensures ok { IfOk result (λ end. Flows (O.held out.old) (O.held out.new) (take at buf.now) (take end buf.now) []) }
-    ensures room { IfOk result (λ end. end + 440000 ≤ length buf.now) }
+    ensures room { IfOk result (λ end. end + 523000 ≤ length buf.now) }
     ensures err { OnErr result (AppendsPrefix (O.held out.old) (O.held out.new) (take at buf.now)) }
     ensures cause { HasCause (O.faults out.old) (O.faults out.new) result }
 {
@@ -86,7 +86,7 @@ fn end_cut<O: Sink>(
 ) -> Result<(), SinkFault>
     requires lawful { IsLawful layout.now }
     requires few { count < 2 ^ 42 }
-    requires room { at + 440000 ≤ length buf.old }
+    requires room { at + 523000 ≤ length buf.old }
     ensures ok { OnOk result (Appends (O.held out.old) (O.held out.new)
         (take at buf.old ++ ending layout.now view.now (kept_of board.now) count cut_words)) }
     ensures err { OnErr result (AppendsPrefix (O.held out.old) (O.held out.new)
@@ -128,7 +128,7 @@ pub fn draw_trace<I: Source, O: Sink>(
     ensures told { IfOk result (λ v. v ≢ verdict.ReadFault → I.faults input.new ≡ I.faults input.old) }
     ensures later { I.faults input.old ≤ I.faults input.new }
 {
-    let mut buf = [0; 458752];
+    let mut buf = [0; 540672];
     draw_by(&mut buf, input, budget, view, out)
 }
 
@@ -140,7 +140,7 @@ fn draw_by<I: Source, O: Sink>(
     view: &View,
     out: &mut O,
 ) -> Result<Verdict, SinkFault>
-    requires large { 458000 ≤ length buf.old }
+    requires large { 540000 ≤ length buf.old }
     requires budget { budget ≤ 2 ^ 40 }
     ensures just { IfOk result (λ v. IsJust budget (I.left input.old) (I.left input.new) (I.faults input.old) (I.faults input.new) v) }
     ensures exact { IfOk result (λ v. (bytes : List ℕ) (other : Verdict) → I.left input.old ≡ Some bytes → v ≢ verdict.ReadFault
@@ -167,7 +167,7 @@ fn draw_all<I: Source, O: Sink>(
 ) -> Result<Verdict, SinkFault>
     requires phase { (standing I.left reader.old).phase ≡ phase.Head }
     requires lines { (standing I.left reader.old).lines ≡ 0 }
-    requires large { 458000 ≤ length buf.old }
+    requires large { 540000 ≤ length buf.old }
     requires fits { (standing I.left reader.old).room ≤ 2 ^ 40 }
     requires empty { (version : Version) → IsKept [] (at_first version) nestings.old }
     ensures just { IfOk result (λ v. IsJust (standing I.left reader.old).room (standing I.left reader.old).rest (I.left

@@ -44,9 +44,9 @@ pub fn add_last_closing(
 ) -> usize
     requires lawful { IsLawful layout.now }
     requires few { count < 2 ^ 42 }
-    requires room { at + 330000 ≤ length buf.old }
+    requires room { at + 342000 ≤ length buf.old }
     ensures text { take result buf.new ≡ take at buf.old ++ closing_if layout.now view.now (kept_of board.now) count }
-    ensures near { result ≤ at + 330000 }
+    ensures near { result ≤ at + 342000 }
 {
     if is_band_open(view, count) {
         let band = band_of(layout, view, count);
@@ -175,9 +175,9 @@ pub fn add_ending(
     requires lawful { IsLawful layout.now }
     requires few { count < 2 ^ 42 }
     requires short { length words.now ≤ 60 }
-    requires room { at + 370000 ≤ length buf.old }
+    requires room { at + 382000 ≤ length buf.old }
     ensures text { take result buf.new ≡ take at buf.old ++ ending layout.now view.now (kept_of board.now) count words.now }
-    ensures near { result ≤ at + 370000 }
+    ensures near { result ≤ at + 382000 }
 {
     let at = add_last_closing(buf, at, layout, view, board, count);
     add_end(buf, at, layout, view, board, count, words)
@@ -235,9 +235,9 @@ pub fn add_failed_ending(
 ) -> usize
     requires lawful { IsLawful layout.now }
     requires few { place < 2 ^ 41 }
-    requires room { at + 440000 ≤ length buf.old }
+    requires room { at + 464000 ≤ length buf.old }
     ensures text { take result buf.new ≡ take at buf.old ++ failed_ending layout.now view.now (kept_of board.now) place e.now why }
-    ensures near { result ≤ at + 440000 }
+    ensures near { result ≤ at + 464000 }
 {
     let at = add_failing(buf, at, layout, view, board, place, e, why);
     add_failed_end(buf, at, layout, view, board, place, e, why)
@@ -257,7 +257,7 @@ pub fn end_with<O: Sink>(
     requires lawful { IsLawful layout.now }
     requires few { count < 2 ^ 42 }
     requires short { length words.now ≤ 60 }
-    requires room { at + 370000 ≤ length buf.old }
+    requires room { at + 382000 ≤ length buf.old }
     ensures ok { OnOk result (Appends (O.held out.old) (O.held out.new)
         (take at buf.old ++ ending layout.now view.now (kept_of board.now) count words.now)) }
     ensures err { OnErr result (AppendsPrefix (O.held out.old) (O.held out.new)
@@ -282,7 +282,7 @@ pub fn end_failed<O: Sink>(
 ) -> Result<(), SinkFault>
     requires lawful { IsLawful layout.now }
     requires few { place < 2 ^ 41 }
-    requires room { at + 440000 ≤ length buf.old }
+    requires room { at + 464000 ≤ length buf.old }
     ensures ok { OnOk result (Appends (O.held out.old) (O.held out.new)
         (take at buf.old ++ failed_ending layout.now view.now (kept_of board.now) place e.now why)) }
     ensures err { OnErr result (AppendsPrefix (O.held out.old) (O.held out.new)

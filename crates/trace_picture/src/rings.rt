@@ -113,9 +113,9 @@ fn add_ringed_ending(
     requires lawful { IsLawful layout.now }
     requires few { count < 2 ^ 42 }
     requires places { AllByRecursion (λ (n : Nested). n.place < 2 ^ 42) cycle.now }
-    requires room { at + 440000 ≤ length buf.old }
+    requires room { at + 464000 ≤ length buf.old }
     ensures text { take result buf.new ≡ take at buf.old ++ ringed_ending layout.now view.now (kept_of board.now) count cycle.now }
-    ensures near { result ≤ at + 440000 }
+    ensures near { result ≤ at + 464000 }
 {
     let at = add_last_closing(buf, at, layout, view, board, count);
     let at = add_rings(buf, at, layout, view, cycle);
@@ -144,7 +144,7 @@ fn end_ringed<O: Sink>(
     requires lawful { IsLawful layout.now }
     requires few { count < 2 ^ 42 }
     requires places { AllByRecursion (λ (n : Nested). n.place < 2 ^ 42) cycle.now }
-    requires room { at + 440000 ≤ length buf.old }
+    requires room { at + 464000 ≤ length buf.old }
     ensures ok { OnOk result (Appends (O.held out.old) (O.held out.new)
         (take at buf.old ++ ringed_ending layout.now view.now (kept_of board.now) count cycle.now)) }
     ensures err { OnErr result (AppendsPrefix (O.held out.old) (O.held out.new)
@@ -169,7 +169,7 @@ fn end_ordered<O: Sink>(
     requires lawful { IsLawful layout.now }
     requires few { count < 2 ^ 42 }
     requires noted { AreNoted nestings.now count }
-    requires room { at + 440000 ≤ length buf.old }
+    requires room { at + 464000 ≤ length buf.old }
     ensures ended { (es : List Event) (now : Spec) → IsKept es now nestings.now
         → (end : List ℕ) × ShowsOrdered layout.now view.now (kept_of board.now) count es end
         × Sends result (O.held out.old) (O.held out.new) (take at buf.old ++ end) }
@@ -204,7 +204,7 @@ pub fn end_legal<O: Sink>(
     requires lawful { IsLawful layout.now }
     requires few { count < 2 ^ 42 }
     requires noted { view.now.ordered ≡ true → AreNoted nestings.now count }
-    requires room { at + 440000 ≤ length buf.old }
+    requires room { at + 464000 ≤ length buf.old }
     ensures ended { (es : List Event) (now : Spec) → (view.now.ordered ≡ true → IsKept es now nestings.now)
         → (end : List ℕ) × IsEnding view.now.ordered layout.now view.now (kept_of board.now) count es end
         × Sends result (O.held out.old) (O.held out.new) (take at buf.old ++ end) }

@@ -1,4 +1,4 @@
-use Rattle.std.proofs.Common.{[], ◌++◌, take, ◌∙◌}
+use Rattle.std.proofs.Common.{[], ◌-◌, ◌++◌, take, ◌∙◌}
 use Rattle.std.specs.Prelude.{codes}
 use Rattle.trace_shapes.specs.Shapes.{with_number, place_text}
 use Rattle.trace_picture.specs.Lives.{row_box}
