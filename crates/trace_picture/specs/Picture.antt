@@ -47,7 +47,8 @@ over_words =
 -- the first tag, the colours, what each mark and each colour means
 unfoldable pub head_text : Layout → List ℕ
 head_text l =
-    style_text ++ pattern_text ++ (each_below entry_at 16 ++ other_words) ++ (many_if l.mutexes ++ each_below hover_text l.mutexes) ++ over_words ++ life_legend l.version
+    style_text ++ pattern_text ++ (each_below entry_at 16 ++ other_words) ++ (many_if l.mutexes ++ each_below hover_text l.mutexes)
+    ++ over_words ++ life_legend l.version
 
 -- what events add behind this past, in order
 unfoldable pub steps_text : Layout → View → List Event → List Event → List ℕ
