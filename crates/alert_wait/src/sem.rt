@@ -13,7 +13,7 @@ ghost use Rattle.alert_wait.specs.Outcomes.{p_end};
 ghost use Rattle.alert_wait.specs.declared.outcome.Outcome.TheVariants.{Returned};
 
 use crate::outcome::Outcome;
-use gate::{stand_in_line, try_take};
+use gate::{enqueue_and_sleep, try_take};
 use larch_actions::{Action, Event, SemId, ThreadId};
 use nub::{begin_event, end_event, withdraw};
 use nub_rule::{Object, Package, Thread, Uses, swap_alert_in_p};
@@ -70,7 +70,7 @@ fn take_or_raise<U: Uses, R: Wait>(rt: &R, p: &Package<U>, me: &mut Thread<U>, s
         if try_take(rt, p, me, at, e) {
             return Outcome::Returned;
         }
-        if !stand_in_line(rt, p, me, at, true) {
+        if !enqueue_and_sleep(rt, p, me, at, true) {
             return end_alerted(rt, p, me, s);
         }
     }

@@ -38,7 +38,7 @@ status_of (order.BadLine k) = BadText
 status_of order.TooLong = TooLong
 status_of order.ReadFault = ReadFault
 
--- where the input tells its bytes and no read failed, the status is that of each answer that is just, unless the sink failed
+-- where the input shows its bytes and no read failed, the status is that of each answer that is just, unless the sink failed
 abbrev pub Ordered : Change → Status → Type 0
 Ordered input status =
     (bytes : List ℕ) (a : OrderAnswer) → input.old ≡ Some bytes → status ≢ ReadFault → a ≢ order.ReadFault → Finds input a

@@ -32,7 +32,7 @@ NotesFor notes (verdict.BadLine k) = Notes notes (bad_line_message k)
 NotesFor notes verdict.TooLong = Notes notes too_long_message
 NotesFor notes verdict.ReadFault = Notes notes input_fault_message
 
--- where the input tells its bytes and no read failed, the status is that of each verdict that is just, unless the sink failed
+-- where the input shows its bytes and no read failed, the status is that of each verdict that is just, unless the sink failed
 abbrev pub Found : Change → Status → Type 0
 Found input status =
     (bytes : List ℕ) (v : Verdict) → input.old ≡ Some bytes → status ≢ ReadFault → v ≢ verdict.ReadFault → Finds input v

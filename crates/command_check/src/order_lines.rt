@@ -1,10 +1,10 @@
 //! The lines of a cycle, or of none.
 ghost use Rattle.std.specs.Prelude.{◌≡◌, ◌≤◌, ◌+◌, ◌++◌, length};
 ghost use Rattle.arrayvec.specs.ArrayString.{array_string_len};
-ghost use Rattle.command_check.specs.OrderLines.{cycle_text, nested_line, no_cycle_line};
+ghost use Rattle.command_check.specs.OrderLines.{cycle_text, edge_line, no_cycle_line};
 
 use arrayvec::ArrayString;
-use lock_order::{Cycle, Nested};
+use lock_order::{Cycle, Edge};
 use text_output::push_with_number;
 
 /// The lines of a cycle of at most 64 mutexes, each of at most 87 bytes.
@@ -21,15 +21,15 @@ pub fn no_cycle(events: u64) -> ArrayString<64>
 }
 
 // Adds the line of a mutex that was got while another was held.
-fn push_nested(text: &mut Lines, nested: &Nested)
+fn push_edge(text: &mut Lines, edge: &Edge)
     requires { array_string_len text.old + 87 ≤ 8192 }
-    ensures bytes { text.new.bytes ≡ text.old.bytes ++ nested_line nested.now }
+    ensures bytes { text.new.bytes ≡ text.old.bytes ++ edge_line edge.now }
     ensures len { array_string_len text.new ≤ array_string_len text.old + 87 }
 {
-    push_with_number(text, "m", nested.outer.0 as u64);
-    push_with_number(text, " m", nested.inner.0 as u64);
-    push_with_number(text, " t", nested.thread.0 as u64);
-    push_with_number(text, " ", nested.place);
+    push_with_number(text, "m", edge.outer.0 as u64);
+    push_with_number(text, " m", edge.inner.0 as u64);
+    push_with_number(text, " t", edge.thread.0 as u64);
+    push_with_number(text, " ", edge.place);
     text.push_str("\n");
 }
 
@@ -41,7 +41,7 @@ pub fn lines_of(cycle: &Cycle) -> Lines
     push_with_number(&mut text, "cycle ", cycle.len() as u64);
     text.push_str("\n");
     for k in 0..cycle.len() {
-        push_nested(&mut text, &cycle.at(k));
+        push_edge(&mut text, &cycle.at(k));
     }
     text
 }

@@ -4,7 +4,7 @@ use Rattle.std.specs.Io.KnownBytes.{Appends}
 use Rattle.std.specs.declared.option.Option.{Option}
 use Rattle.firefly_outside.specs.Causes.{Rose, AppendsPrefix}
 
--- the bytes that an object tells, and its count of faults, before a call and after it
+-- the bytes that an object shows, and its count of faults, before a call and after it
 pub record Change : Type 0 where
   pub old : Option (List ℕ)
   pub new : Option (List ℕ)

@@ -44,6 +44,6 @@ ending_of fault.Read = ending.InputFault
 abbrev pub SaysFault : TextFault → Change → Status → Type 0
 SaysFault fault notes status = (status ≡ status_of (ending_of fault)) × Notes notes (message_of (ending_of fault))
 
--- A failed read is told: the input's count of faults rises only where the status says so.
+-- A failed read is reported: the input's count of faults rises only where the status says so.
 abbrev pub TellsFault : Change → Status → Type 0
 TellsFault input status = status ≢ ReadFault → input.now ≡ input.before

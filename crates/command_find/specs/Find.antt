@@ -71,7 +71,7 @@ IsDue most bytes BadText = (k : ℕ) × IsShown IsIndexText most bytes k
 IsDue most bytes TooLong = IsTooLong IsIndexText most bytes
 IsDue most bytes status = ⊥
 
--- where the input tells its bytes, the words ask for a query, memory sufficed and no read failed, the status is the one that is due, unless the sink failed
+-- where the input shows its bytes, the words ask for a query, memory sufficed and no read failed, the status is the one that is due, unless the sink failed
 abbrev pub Decided : List Token → Change → Status → Type 0
 Decided words input status =
     (most : ℕ) (tokens : List Token) (tree : Tree) (bytes : List ℕ) (due : Status) → Asks words most tokens → Reads tokens tree → input.old ≡ Some bytes → status ≢ Memory → status ≢ ReadFault

@@ -102,7 +102,7 @@ fn with_option<'a>(
     }
 }
 
-// DIR behind what there is, where there is a command.
+// Adds DIR at the end, if there is a command.
 fn with_dir<'a>(
     alloc: Global,
     command: Result<clap::Command<'a>, AllocError>,

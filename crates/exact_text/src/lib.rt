@@ -4,7 +4,8 @@
 //! must come, or that no further bytes can make the bytes a text of the grammar. `take_line` asks the source only where the bytes held
 //! don't decide, so a bad line shows at its first bad byte, before a later failed read; `another_line` does so for texts that are lines of
 //! one kind. What makes a bad line, an input too long and a failed read just is said once, for any grammar: `HasReason` of
-//! specs/Exact.antt. Stands on the sources of `firefly_outside`. It takes no memory but a window of 64 KiB, and knows no grammar.
+//! specs/Exact.antt. Stands on the sources of `firefly_outside`, and knows no grammar. It takes no memory but a window of 64 KiB; a
+//! `LongIntake` also keeps the bytes of the line at hand, which may have any length.
 #![tactic(auto)]
 
 mod fault;

@@ -33,7 +33,7 @@ NoneRose old new = (a b : Look) → Among old new a b → b.faults ≡ a.faults
 abbrev pub IsTheIndex : Options → List (Option Look) → Index → Type 0
 IsTheIndex o old piece = IfSome (told_by old) (λ t. IsWhole t o.directory o.stop_after piece)
 
--- where the trees tell, over all of them together the directories under the one that is told were listed, each once, and the files under it
+-- where the tree shows its contents, over all of them together the directories under the one that is shown were listed, each once, and the files under it
 -- were read, each once
 abbrev pub AreAskedOnce : Options → List (Option Look) → List (Option Look) → Type 0
 AreAskedOnce o old new = IfSome (told_by old) (λ t. IsEachOnce (λ (l : Look). l.calls) t o.directory (length old - 1) old new)

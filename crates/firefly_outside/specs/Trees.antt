@@ -1,4 +1,4 @@
--- Trees of files, and what a call on one tells.
+-- Trees of files, and what a call on one reports.
 use Rattle.std.specs.Prelude.{◌≡◌, ◌≢◌, ℕ, ◌<◌, ◌≤◌, Bool, true, List, [], ◌∷◌, ◌++◌, length, Option, Some, None, Result, Ok, Err, ◌⊎◌, ◌↔◌, Contains, All, AllPairs, nat_lt, if◌then◌else◌}
 use Rattle.firefly_outside.specs.Causes.{Rose}
 use Rattle.firefly_outside.specs.declared.tree.Entry.{Entry}
@@ -15,7 +15,7 @@ pub data Node : Type 0 where
   Directory : List Entry → Node
   Bytes : List ℕ → Node
 
--- a tree as it is told: what is at each path
+-- a tree as it is shown: what is at each path
 abbrev pub Told : Type 0
 Told = Path → Option Node
 

@@ -1,7 +1,7 @@
 //! Sources that give bytes, sinks that take them and trees of files, each with a count of its faults.
 //!
 //! Promises: a call fails only where that count rose. Sources, sinks and trees in memory say exactly which calls fail. Those of the system
-//! stand on std's readers, writers and files, and tell what these tell. It does not know what the bytes mean.
+//! stand on std's readers, writers and files, and report what these report. It does not know what the bytes mean.
 #![tactic(auto)]
 
 mod dir_tree;

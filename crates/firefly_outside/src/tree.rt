@@ -52,13 +52,13 @@ pub enum TreeError {
 pub trait Tree: Send + Drop {
     ghost use Rattle.firefly_outside.specs.Trees.{Told, Path, Calls, Lists, Reads, AreEntries, IsWithin, Counts};
 
-    /// What is at each path, where the tree tells it.
+    /// What is at each path, where the tree shows it.
     ghost tree: { Self → Option Told };
 
-    /// The paths listed, read and failed, where the tree tells.
+    /// The paths listed, read and failed, where the tree shows its contents.
     ghost calls: { Self → Calls };
 
-    /// The paths that may fail, where the tree tells.
+    /// The paths that may fail, where the tree shows its contents.
     ghost may_fail: { Self → List Path };
 
     /// How often the tree has failed. It never falls.

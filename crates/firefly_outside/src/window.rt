@@ -87,7 +87,7 @@ fn to_front(buf: &mut [u8], start: usize, end: usize)
     buf.copy_within(start..end, 0);
 }
 
-// Reads behind the first bytes, at most so many.
+// Reads at most so many bytes to the place after the first ones.
 fn read_behind<I: Source>(
     input: &mut I,
     buf: &mut [u8],

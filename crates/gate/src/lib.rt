@@ -10,4 +10,4 @@ mod freeing;
 mod taking;
 
 pub use freeing::free;
-pub use taking::{stand_in_line, take, take_quiet, try_take};
+pub use taking::{enqueue_and_sleep, take, take_quiet, try_take};

@@ -218,7 +218,7 @@ fn take_slowly<U: Uses, R: Wait>(rt: &R, p: &Package<U>, me: &mut Thread<U>, at:
         if left == 0 {
             // The bit is also tried again after a sleep: the thread that woke this one hasn't kept
             // the bit for it.
-            stand_in_line(rt, p, me, at, false);
+            enqueue_and_sleep(rt, p, me, at, false);
             slept = true;
             left = looks_of(me);
             backoff.reset();
@@ -255,7 +255,7 @@ pub fn take_quiet<U: Uses, R: Wait>(rt: &R, p: &Package<U>, me: &mut Thread<U>, 
         if take_bit_quiet(p, me, m) == 0 {
             return;
         }
-        stand_in_line(rt, p, me, at, false);
+        enqueue_and_sleep(rt, p, me, at, false);
     }
     unreachable!()
 }
@@ -307,7 +307,7 @@ fn look_briefly<U: Uses>(p: &Package<U>, at: Object, looks: u32, backoff: &Backo
 /// bit, or until it is alerted.
 #[cold]
 #[inline(never)]
-pub fn stand_in_line<U: Uses, R: Wait>(
+pub fn enqueue_and_sleep<U: Uses, R: Wait>(
     rt: &R,
     p: &Package<U>,
     me: &mut Thread<U>,

@@ -1,4 +1,4 @@
--- A tree as steps, each behind the steps that it joins.
+-- A tree as steps, each after the steps that it joins.
 use Rattle.std.specs.Prelude.{List, [], ◌∷◌, ◌++◌}
 use Rattle.index_find.specs.Tree.{Tree, Word, Not, Both, Either}
 use Rattle.index_find.specs.declared.query.Step.{Step}

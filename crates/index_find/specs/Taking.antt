@@ -12,7 +12,7 @@ use Rattle.index_find.specs.declared.read.QueryFault.TheVariants.{Memory, NotAQu
 use Rattle.index_find.specs.declared.taking.Pending.{Pending}
 use Rattle.index_find.specs.declared.taking.Pending.TheVariants as pending
 
--- what is pending, the last first, and the steps: before a term, or behind one
+-- what is pending, the last first, and the steps: before a term, or after one
 pub data State : Type 0 where
   Before : List Pending → List Step → State
   Behind : List Pending → List Step → State

@@ -107,7 +107,7 @@ fn take_before(
     }
 }
 
-// Takes a token that stands behind a term, and says whether it ends one.
+// Takes a token that stands after a term, and says whether it ends one.
 fn take_behind(
     pending: &mut Vec<Pending>,
     steps: &mut Vec<Step>,

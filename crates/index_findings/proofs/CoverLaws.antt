@@ -11,8 +11,8 @@ use Rattle.walker.proofs.ListLemmas.{All-from, Contains-cons_cases, Contains-hea
 use Rattle.word_index.specs.Batch.{Held, HoldsFiles}
 use Rattle.word_index.specs.Index.{File, Index, IsIndexOf}
 use Rattle.word_index.specs.Read.{read_file}
-use Rattle.index_findings.specs.declared.lots.ReadFile.{ReadFile}
-use Rattle.index_findings.specs.Lots.{AreRead, IsHeldAt, IsRead, IsReadAt}
+use Rattle.index_findings.specs.declared.read_files.ReadFile.{ReadFile}
+use Rattle.index_findings.specs.ReadFiles.{AreRead, IsHeldAt, IsRead, IsReadAt}
 use Rattle.index_findings.specs.Pieces.{IsCovered}
 use Rattle.index_findings.proofs.PieceLaws.{covered_cases, covered_prefix, covered_last}
 

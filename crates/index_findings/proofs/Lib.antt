@@ -1,6 +1,6 @@
 pub mod ToldLaws
 pub mod PieceLaws
-pub mod LotLaws
+pub mod ReadFileLaws
 pub mod CoverLaws
 pub mod OnceLaws
 pub mod VisitLaws

@@ -12,8 +12,8 @@ use Rattle.walker.specs.Pile.{AreApart}
 use Rattle.word_index.specs.Batch.{Held, HoldsFiles}
 use Rattle.word_index.specs.Index.{File, Index, IsIndexOf, Meet}
 use Rattle.word_index.specs.Read.{read_file}
-use Rattle.index_findings.specs.declared.lots.ReadFile.{ReadFile}
-use Rattle.index_findings.specs.Lots.{AreHeldOnce, IsHeldAt, IsReadAt}
+use Rattle.index_findings.specs.declared.read_files.ReadFile.{ReadFile}
+use Rattle.index_findings.specs.ReadFiles.{AreHeldOnce, IsHeldAt, IsReadAt}
 use Rattle.index_findings.specs.Pieces.{IsCovered}
 use Rattle.index_findings.proofs.CoverLaws.{more_paths}
 use Rattle.index_findings.proofs.PieceLaws.{is_one}

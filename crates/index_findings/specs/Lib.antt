@@ -1,6 +1,6 @@
 pub mod Pieces
 pub mod Visits
-pub mod Lots
+pub mod ReadFiles
 pub mod Faults
 pub mod Gathered
 pub mod Rest

@@ -15,12 +15,12 @@ mod findings;
 mod gathering;
 mod joining;
 mod keeping;
-mod lots;
 mod merging;
+mod read_files;
 
 pub use deciding::decided;
 pub use findings::{Fault, Findings, Visit};
 pub use gathering::gathered;
 pub use keeping::keep_listing;
-pub use lots::{Lot, ReadFile, pieces_of};
 pub use merging::{keep, merge_rest};
+pub use read_files::{ReadFile, ReadFiles, pieces_of};

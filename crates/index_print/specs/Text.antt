@@ -24,7 +24,7 @@ hit_line hit = hit_prefix hit.count hit.line ++ escaped hit.path ++ newline
 abbrev pub hit_lead : ℕ → ℕ → List ℕ
 hit_lead count line = newline ++ hit_prefix count line
 
--- a file's line without its end, behind the end of the line before
+-- a file's line without its end, after the end of the line before
 abbrev pub hit_after : Hit → List ℕ
 hit_after hit = hit_lead hit.count hit.line ++ escaped hit.path
 

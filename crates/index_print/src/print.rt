@@ -50,7 +50,7 @@ fn put_hit<O: Sink>(
     put_known_path(held, found.path, are_plain, out)
 }
 
-// Puts the lines of the files that have a word, each behind the end of the line before.
+// Puts the lines of the files that have a word, each after the end of the line before.
 fn put_hits<O: Sink>(
     held: &mut Held,
     piece: &Piece,

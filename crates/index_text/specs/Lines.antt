@@ -41,7 +41,7 @@ may_be_word (Some last) word = nat_le (length word) 64
     && (is_lt (slice_cmp nat_cmp last word) || (is_prefix word last && (nat_lt (length last) 64 || list_any (λ b. nat_lt b 122)
     (drop (length word) last))))
 
--- a word above the last one, and the space behind it
+-- a word above the last one, and the space after it
 abbrev pub key_at : Option (List ℕ) → Reader (List ℕ)
 key_at last = token_from is_key_byte (is_good_word last) (may_be_word last) 32 []
 

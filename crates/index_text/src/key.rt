@@ -99,7 +99,7 @@ fn key_end(bytes: &[u8]) -> usize
     at
 }
 
-/// Reads a word above the last one, and the space behind it.
+/// Reads a word above the last one, and the space after it.
 pub fn key<'b>(bytes: &'b [u8], last: Option<&[u8]>) -> Result<(&'b [u8], &'b [u8]), Stop>
     ensures { Gives (λ x. (x.0.now, x.1.now)) result (key_at (option_copied last.entry) bytes.now) }
 {

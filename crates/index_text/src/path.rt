@@ -10,7 +10,7 @@ use crate::key::{above, begins};
 use std::alloc::AllocError;
 use std::str::from_utf8;
 
-// How the bytes of a path on a line end: well, behind a backslash, or not at all.
+// How the bytes of a path on a line end: well, after a backslash, or not at all.
 #[derive(Clone, Copy)]
 enum Ending {
     Whole,
@@ -31,7 +31,7 @@ fn line_end(bytes: &[u8]) -> usize
     at
 }
 
-// What one byte says, behind a backslash or not.
+// What one byte says, after a backslash or not.
 #[derive(Clone, Copy)]
 enum Step {
     Wait,
@@ -93,7 +93,7 @@ fn good(last: Option<&[u8]>, path: &[u8]) -> bool
     }
 }
 
-// Whether it is a path above the last one with these bytes behind it.
+// Whether it is a path above the last one with these bytes after it.
 fn completes(last: Option<&[u8]>, prefix: &mut Vec<u8>, more: &[u8]) -> Result<bool, AllocError>
     ensures tells { IfOk result (λ b. b ≡ is_path (option_copied last.entry) (Some (prefix.old.items ++ more.now))) }
     ensures kept { OnOk result (prefix.new.items ≡ prefix.old.items) }

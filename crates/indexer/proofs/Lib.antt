@@ -6,7 +6,7 @@ pub mod ParseShares
 pub mod WalkSteps
 pub mod Placing
 pub mod CrewBack
-pub mod LotLaws
+pub mod ReadFileLaws
 pub mod Together
 pub mod OnceLaws
 pub mod RunLaws

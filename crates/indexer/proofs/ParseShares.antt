@@ -11,8 +11,8 @@ use Rattle.walker.specs.Pile.{AreApart}
 use Rattle.word_index.specs.Index.{Index, IsRising, Meet}
 use Rattle.word_index.proofs.Searches.{not_below}
 use Rattle.std.proofs.lemmas.List.Kept.{AllPairs-cons}
-use Rattle.index_findings.specs.Lots.{AreRead, IsDue, IsReadAt}
-use Rattle.index_findings.specs.declared.lots.Lot.{Lot}
+use Rattle.index_findings.specs.ReadFiles.{AreRead, IsDue, IsReadAt}
+use Rattle.index_findings.specs.declared.read_files.ReadFiles.{ReadFiles}
 use Rattle.std.specs.Prelude.{IfSome, IsTrue, vec_len}
 use Rattle.std.proofs.lemmas.List.{nil_from_length}
 use Rattle.index_findings.specs.Pieces.{IsCovered, IsFilesPiece}
@@ -20,7 +20,7 @@ use Rattle.index_findings.specs.Rest.{IsCoveredFile}
 use Rattle.index_findings.specs.Visits.{IsFoundDir, IsFoundFile}
 use Rattle.index_findings.specs.declared.findings.Findings.{Findings}
 use Rattle.index_findings.specs.declared.findings.Visit.{Visit}
-use Rattle.index_findings.specs.declared.lots.ReadFile.{ReadFile}
+use Rattle.index_findings.specs.declared.read_files.ReadFile.{ReadFile}
 use Rattle.index_rule.specs.Children.{IsBelow}
 use Rattle.index_rule.specs.Counting.{all_at, all_from, contains_cons_cases, contains_head, contains_nil, contains_one, contains_times, distinct_across, distinct_append, distinct_cons, distinct_left, distinct_nil, distinct_right, distinct_times, in_all, in_one, times, times-append, times_contains, times_distinct}
 use Rattle.index_rule.specs.Distinct.{AreDistinct}
@@ -33,8 +33,8 @@ use Rattle.indexer.specs.States.{HasGathered, IsPassedOn, MayPutPieces, ReadsInt
 use Rattle.indexer.specs.Turns.{Worker, Run, IsBetween}
 
 -- the paths in their three places
-acc_times : (root : Path) (lot : List Path) (kept : List Index) (s : Share) (p : Path) → times p (accounted root lot kept s) ≡ times p lot + (times p (flat_map (covered root) kept) + times p (paths_put root 2 s))
-acc_times root lot kept s p = times-append p lot (flat_map (covered root) kept ++ paths_put root 2 s) ∙ ap (λ n. times p lot + n) (times-append p (flat_map (covered root) kept) (paths_put root 2 s))
+acc_times : (root : Path) (loaded : List Path) (kept : List Index) (s : Share) (p : Path) → times p (accounted root loaded kept s) ≡ times p loaded + (times p (flat_map (covered root) kept) + times p (paths_put root 2 s))
+acc_times root loaded kept s p = times-append p loaded (flat_map (covered root) kept ++ paths_put root 2 s) ∙ ap (λ n. times p loaded + n) (times-append p (flat_map (covered root) kept) (paths_put root 2 s))
 
 pub gathered_none : (root : Path) → HasGathered root [] [] [] false blank
 gathered_none root = record {
@@ -50,16 +50,16 @@ gathered_none root = record {
 }
 
 -- where no path is accounted for more often than before, and as often unless something was lost
-module _ (root : Path) (lot then_lot : List Path) (kept then_kept : List Index) (files : List Path) (lost then_lost : Bool) (s r : Share) (was : HasGathered root lot kept files lost s) where
+module _ (root : Path) (loaded then_lot : List Path) (kept then_kept : List Index) (files : List Path) (lost then_lost : Bool) (s r : Share) (was : HasGathered root loaded kept files lost s) where
   gathered_less : ((p : Path) → Contains (paths_taken root 1 s) p → Contains (paths_taken root 1 r) p) → r.put ≡ s.put → paths_put root 1 r ≡ paths_put root 1 s → paths_taken root 2 r ≡ paths_taken root 2 s
-      → All (IsBelow root) then_lot → ((p : Path) → times p (accounted root then_lot then_kept r) ≤ times p (accounted root lot kept s))
-      → (then_lost ≡ false → (lost ≡ false) × ((p : Path) → times p (accounted root then_lot then_kept r) ≡ times p (accounted root lot kept s))) → HasGathered root then_lot then_kept files then_lost r
+      → All (IsBelow root) then_lot → ((p : Path) → times p (accounted root then_lot then_kept r) ≤ times p (accounted root loaded kept s))
+      → (then_lost ≡ false → (lost ≡ false) × ((p : Path) → times p (accounted root then_lot then_kept r) ≡ times p (accounted root loaded kept s))) → HasGathered root then_lot then_kept files then_lost r
   gathered_less taken put files_put merged below most same = record {
-    once = times_distinct (accounted root then_lot then_kept r) (λ p. let one = distinct_times p (accounted root lot kept s) was.once in let less = most p in omega arith);
+    once = times_distinct (accounted root then_lot then_kept r) (λ p. let one = distinct_times p (accounted root loaded kept s) was.once in let less = most p in omega arith);
     took = all_from (Contains (paths_taken root 1 r)) (accounted root then_lot then_kept r) (λ p h.
         let one = contains_times p (accounted root then_lot then_kept r) h in
         let less = most p in
-        taken p (all_at (Contains (paths_taken root 1 s)) (accounted root lot kept s) p was.took (times_contains p (accounted root lot kept s) (omega arith))));
+        taken p (all_at (Contains (paths_taken root 1 s)) (accounted root loaded kept s) p was.took (times_contains p (accounted root loaded kept s) (omega arith))));
     below = below;
     files_once = was.files_once;
     files_took = All-weaker (Contains (paths_taken root 1 s)) (Contains (paths_taken root 1 r)) taken files was.files_took;
@@ -70,16 +70,16 @@ module _ (root : Path) (lot then_lot : List Path) (kept then_kept : List Index) 
   }
 
 -- files were taken, or nothing was done
-pub gathered_took : (root : Path) (lot : List Path) (kept : List Index) (files taken : List Path) (lost : Bool) (s r : Share) → Grows root (record nothing { files_taken = taken }) s r → HasGathered root lot kept files lost s → HasGathered root lot kept files lost r
-gathered_took root lot kept files taken lost s r grows was =
-    let same : (p : Path) → times p (accounted root lot kept r) ≡ times p (accounted root lot kept s) = λ p. ap (λ l. times p (lot ++ (flat_map (covered root) kept ++ l))) grows.pieces_put in
-    gathered_less root lot lot kept kept files lost lost s r was (λ p h. subst (λ l. Contains l p) (sym grows.files_taken) (Contains-append_right taken (paths_taken root 1 s) p h)) grows.put grows.files_put grows.pieces_taken was.below
+pub gathered_took : (root : Path) (loaded : List Path) (kept : List Index) (files taken : List Path) (lost : Bool) (s r : Share) → Grows root (record nothing { files_taken = taken }) s r → HasGathered root loaded kept files lost s → HasGathered root loaded kept files lost r
+gathered_took root loaded kept files taken lost s r grows was =
+    let same : (p : Path) → times p (accounted root loaded kept r) ≡ times p (accounted root loaded kept s) = λ p. ap (λ l. times p (loaded ++ (flat_map (covered root) kept ++ l))) grows.pieces_put in
+    gathered_less root loaded loaded kept kept files lost lost s r was (λ p h. subst (λ l. Contains l p) (sym grows.files_taken) (Contains-append_right taken (paths_taken root 1 s) p h)) grows.put grows.files_put grows.pieces_taken was.below
     (λ p. let e = same p in omega arith) (λ none. (none, same))
 
--- a file was read into the lot, or lost, or not read
-module _ (root : Path) (lot : List Path) (kept : List Index) (files : List Path) (s r : Share) (path : Path) (was : HasGathered root lot kept files false s) (new : IsNewFile root path s) (grows : Grows root (record nothing { files_taken = path ∷ [] }) s r) where
-  here : HasGathered root lot kept files false r
-  here = gathered_took root lot kept files (path ∷ []) false s r grows was
+-- a file was read into the read files, or lost, or not read
+module _ (root : Path) (loaded : List Path) (kept : List Index) (files : List Path) (s r : Share) (path : Path) (was : HasGathered root loaded kept files false s) (new : IsNewFile root path s) (grows : Grows root (record nothing { files_taken = path ∷ [] }) s r) where
+  here : HasGathered root loaded kept files false r
+  here = gathered_took root loaded kept files (path ∷ []) false s r grows was
 
   first : Contains (paths_taken root 1 r) path
   first = subst (λ l. Contains l path) (sym grows.files_taken) (contains_head path (paths_taken root 1 s))
@@ -87,8 +87,8 @@ module _ (root : Path) (lot : List Path) (kept : List Index) (files : List Path)
   not_read : ¬ Contains files path
   not_read h = new.new (all_at (Contains (paths_taken root 1 s)) files path was.files_took h)
 
-  not_had : ¬ Contains (accounted root lot kept r) path
-  not_had h = new.new (all_at (Contains (paths_taken root 1 s)) (accounted root lot kept s) path was.took (subst (λ l. Contains (lot ++ (flat_map (covered root) kept ++ l)) path) grows.pieces_put h))
+  not_had : ¬ Contains (accounted root loaded kept r) path
+  not_had h = new.new (all_at (Contains (paths_taken root 1 s)) (accounted root loaded kept s) path was.took (subst (λ l. Contains (loaded ++ (flat_map (covered root) kept ++ l)) path) grows.pieces_put h))
 
   more_once : AreDistinct (files ++ path ∷ [])
   more_once = distinct_append files (path ∷ []) was.files_once (distinct_cons path [] (contains_nil path) distinct_nil) (λ p h k. not_read (subst (Contains files) (sym (contains_one path p k)) h))
@@ -96,38 +96,38 @@ module _ (root : Path) (lot : List Path) (kept : List Index) (files : List Path)
   more_took : All (Contains (paths_taken root 1 r)) (files ++ path ∷ [])
   more_took = All-append (Contains (paths_taken root 1 r)) files (path ∷ []) here.files_took (All-cons (Contains (paths_taken root 1 r)) path [] first (All-nil (Contains (paths_taken root 1 r))))
 
-  pub gathered_into : (lost : Bool) → HasGathered root (lot ++ path ∷ []) kept (files ++ path ∷ []) lost r
+  pub gathered_into : (lost : Bool) → HasGathered root (loaded ++ path ∷ []) kept (files ++ path ∷ []) lost r
   gathered_into lost = record {
-    once = times_distinct (accounted root (lot ++ path ∷ []) kept r) (λ p.
-        let most = distinct_times p (path ∷ accounted root lot kept r) (distinct_cons path (accounted root lot kept r) not_had here.once) in
+    once = times_distinct (accounted root (loaded ++ path ∷ []) kept r) (λ p.
+        let most = distinct_times p (path ∷ accounted root loaded kept r) (distinct_cons path (accounted root loaded kept r) not_had here.once) in
         let e = longer p in
         omega arith);
-    took = all_from (Contains (paths_taken root 1 r)) (accounted root (lot ++ path ∷ []) kept r) (λ p h.
-        let one = contains_times p (accounted root (lot ++ path ∷ []) kept r) h in
+    took = all_from (Contains (paths_taken root 1 r)) (accounted root (loaded ++ path ∷ []) kept r) (λ p h.
+        let one = contains_times p (accounted root (loaded ++ path ∷ []) kept r) h in
         let e = longer p in
         ⊎_elim
         (λ (is : path ≡ p). subst (Contains (paths_taken root 1 r)) is first)
-        (λ (k : Contains (accounted root lot kept r) p). all_at (Contains (paths_taken root 1 r)) (accounted root lot kept r) p here.took k)
-        (contains_cons_cases path (accounted root lot kept r) p (times_contains p (path ∷ accounted root lot kept r) (omega arith))));
-    below = All-append (IsBelow root) lot (path ∷ []) was.below (All-cons (IsBelow root) path [] new.below (All-nil (IsBelow root)));
+        (λ (k : Contains (accounted root loaded kept r) p). all_at (Contains (paths_taken root 1 r)) (accounted root loaded kept r) p here.took k)
+        (contains_cons_cases path (accounted root loaded kept r) p (times_contains p (path ∷ accounted root loaded kept r) (omega arith))));
+    below = All-append (IsBelow root) loaded (path ∷ []) was.below (All-cons (IsBelow root) path [] new.below (All-nil (IsBelow root)));
     files_once = more_once;
     files_took = more_took;
-    same = λ none p. let a = times-append p files (path ∷ []) in let b = here.same refl p in let e = longer p in let f = times-append p (path ∷ []) (accounted root lot kept r) in omega arith;
+    same = λ none p. let a = times-append p files (path ∷ []) in let b = here.same refl p in let e = longer p in let f = times-append p (path ∷ []) (accounted root loaded kept r) in omega arith;
     no_dirs = here.no_dirs;
     no_files = here.no_files;
     no_merges = here.no_merges;
   }
     where
-      longer : (p : Path) → times p (accounted root (lot ++ path ∷ []) kept r) ≡ times p (path ∷ accounted root lot kept r)
+      longer : (p : Path) → times p (accounted root (loaded ++ path ∷ []) kept r) ≡ times p (path ∷ accounted root loaded kept r)
       longer p =
-          let a = acc_times root (lot ++ path ∷ []) kept r p in
-          let b = acc_times root lot kept r p in
-          let d = times-append p lot (path ∷ []) in
-          let e = times-append p (path ∷ []) (accounted root lot kept r) in
+          let a = acc_times root (loaded ++ path ∷ []) kept r p in
+          let b = acc_times root loaded kept r p in
+          let d = times-append p loaded (path ∷ []) in
+          let e = times-append p (path ∷ []) (accounted root loaded kept r) in
           omega arith
 
   -- read, and lost
-  gathered_lost : HasGathered root lot kept (files ++ path ∷ []) true r
+  gathered_lost : HasGathered root loaded kept (files ++ path ∷ []) true r
   gathered_lost = record {
     once = here.once;
     took = here.took;
@@ -140,7 +140,7 @@ module _ (root : Path) (lot : List Path) (kept : List Index) (files : List Path)
     no_merges = here.no_merges;
   }
 
-  gathered_as : (lost : Bool) → HasGathered root lot kept files lost r
+  gathered_as : (lost : Bool) → HasGathered root loaded kept files lost r
   gathered_as lost = record {
     once = here.once;
     took = here.took;
@@ -153,14 +153,14 @@ module _ (root : Path) (lot : List Path) (kept : List Index) (files : List Path)
     no_merges = here.no_merges;
   }
 
-  pub gathered_read : (then_lot more : List Path) (lost : Bool) → ReadsInto path lot then_lot more lost → HasGathered root then_lot kept (files ++ more) lost r
+  pub gathered_read : (then_lot more : List Path) (lost : Bool) → ReadsInto path loaded then_lot more lost → HasGathered root then_lot kept (files ++ more) lost r
   gathered_read then_lot more lost reads = ⊎_elim
-      (λ (x : (more ≡ path ∷ []) × (then_lot ≡ lot ++ path ∷ [])).
+      (λ (x : (more ≡ path ∷ []) × (then_lot ≡ loaded ++ path ∷ [])).
       subst (λ l. HasGathered root then_lot kept (files ++ l) lost r) (sym x.0) (subst (λ l. HasGathered root l kept (files ++ path ∷ []) lost r) (sym x.1) (gathered_into lost)))
-      (λ (x : (then_lot ≡ lot) × ((more ≡ []) ⊎ ((more ≡ path ∷ []) × (lost ≡ true)))).
+      (λ (x : (then_lot ≡ loaded) × ((more ≡ []) ⊎ ((more ≡ path ∷ []) × (lost ≡ true)))).
       subst (λ l. HasGathered root l kept (files ++ more) lost r) (sym x.0) (⊎_elim
-      (λ (none : more ≡ []). subst (λ l. HasGathered root lot kept (files ++ l) lost r) (sym none) (subst (λ l. HasGathered root lot kept l lost r) (sym (append-nil files)) (gathered_as lost)))
-      (λ (y : (more ≡ path ∷ []) × (lost ≡ true)). subst (λ l. HasGathered root lot kept (files ++ l) lost r) (sym y.0) (subst (λ b. HasGathered root lot kept (files ++ path ∷ []) b r) (sym y.1) gathered_lost))
+      (λ (none : more ≡ []). subst (λ l. HasGathered root loaded kept (files ++ l) lost r) (sym none) (subst (λ l. HasGathered root loaded kept l lost r) (sym (append-nil files)) (gathered_as lost)))
+      (λ (y : (more ≡ path ∷ []) × (lost ≡ true)). subst (λ l. HasGathered root loaded kept (files ++ l) lost r) (sym y.0) (subst (λ b. HasGathered root loaded kept (files ++ path ∷ []) b r) (sym y.1) gathered_lost))
       x.1))
       reads
 
@@ -215,7 +215,7 @@ covered_file root ps p h =
     let u = Contains-unmap (child root) o.one.paths p o.is in
     record { name = u.origin; is = sym u.is; covered = record { piece = o.one; among = o.among; covers = u.among } }
 
--- pieces made of a lot have its files
+-- pieces made of a list of read files have its files
 pub lot_same : (root : Path) (files : List ReadFile) (ps : List Index) → AreDistinct (lot_paths files) → All (IsBelow root) (lot_paths files) → All (IsFilesPiece None root) ps → AreApart ps → ((q : Path) → IsCovered ps q ↔ IsReadAt root files q)
     → (p : Path) → times p (flat_map (covered root) ps) ≡ times p (lot_paths files)
 lot_same root files ps once below each apart covers p =
@@ -229,21 +229,21 @@ lot_same root files ps once below each apart covers p =
     let b = all_at (IsBelow root) (lot_paths files) p below h in
     file_covered root ps p (record { name = b.0; is = b.1; covered = (covers b.0).1 (record { read = u.origin; among = u.among; is = u.is ∙ b.1 }) }))
 
--- pieces made of a lot may be put
-pub may_pass : (root : Path) (lot : List Path) (kept : List Index) (files : List Path) (lost : Bool) (s : Share) (ps : List Index) → HasGathered root lot kept files lost s → ((p : Path) → times p (flat_map (covered root) ps) ≡ times p lot) → MayPutPieces root ps s
-may_pass root lot kept files lost s ps was same = record {
+-- pieces made of a list of read files may be put
+pub may_pass : (root : Path) (loaded : List Path) (kept : List Index) (files : List Path) (lost : Bool) (s : Share) (ps : List Index) → HasGathered root loaded kept files lost s → ((p : Path) → times p (flat_map (covered root) ps) ≡ times p loaded) → MayPutPieces root ps s
+may_pass root loaded kept files lost s ps was same = record {
   took = all_from (Contains (paths_taken root 1 s)) (flat_map (covered root) ps) (λ p h.
       let one = contains_times p (flat_map (covered root) ps) h in
       let e = same p in
-      let a = acc_times root lot kept s p in
-      all_at (Contains (paths_taken root 1 s)) (accounted root lot kept s) p was.took (times_contains p (accounted root lot kept s) (omega arith)));
-  once = times_distinct (flat_map (covered root) ps) (λ p. let e = same p in let a = acc_times root lot kept s p in let most = distinct_times p (accounted root lot kept s) was.once in omega arith);
+      let a = acc_times root loaded kept s p in
+      all_at (Contains (paths_taken root 1 s)) (accounted root loaded kept s) p was.took (times_contains p (accounted root loaded kept s) (omega arith)));
+  once = times_distinct (flat_map (covered root) ps) (λ p. let e = same p in let a = acc_times root loaded kept s p in let most = distinct_times p (accounted root loaded kept s) was.once in omega arith);
   new = λ p h k.
       let one = contains_times p (flat_map (covered root) ps) h in
       let two = contains_times p (paths_put root 2 s) k in
       let e = same p in
-      let a = acc_times root lot kept s p in
-      let most = distinct_times p (accounted root lot kept s) was.once in
+      let a = acc_times root loaded kept s p in
+      let most = distinct_times p (accounted root loaded kept s) was.once in
       omega arith;
 }
 
@@ -256,28 +256,28 @@ not_false true e = refl
 not_false false e = absurd (cc)
 
 -- they were given on
-pub gathered_passed : (root : Path) (lot : List Path) (kept new : List Index) (files put : List Path) (lost all : Bool) (s r : Share) (ps : List Index) → HasGathered root lot kept files lost s → ((p : Path) → times p (flat_map (covered root) ps) ≡ times p lot)
+pub gathered_passed : (root : Path) (loaded : List Path) (kept new : List Index) (files put : List Path) (lost all : Bool) (s r : Share) (ps : List Index) → HasGathered root loaded kept files lost s → ((p : Path) → times p (flat_map (covered root) ps) ≡ times p loaded)
     → Grows root (record nothing { pieces_put = put }) s r → IsPassedOn root (flat_map (covered root) ps) put kept new all → HasGathered root [] new files (lost || not all) r
-gathered_passed root lot kept new files put lost all s r ps was made grows passed =
-    gathered_less root lot [] kept new files lost (lost || not all) s r was (λ p h. subst (λ l. Contains l p) (sym grows.files_taken) h) grows.put grows.files_put grows.pieces_taken (All-nil (IsBelow root))
-    (λ p. let a = acc_times root [] new r p in let b = acc_times root lot kept s p in let e = made p in let m = passed.most p in let g = ap (times p) grows.pieces_put in let h = times-append p put (paths_put root 2 s) in omega arith)
+gathered_passed root loaded kept new files put lost all s r ps was made grows passed =
+    gathered_less root loaded [] kept new files lost (lost || not all) s r was (λ p h. subst (λ l. Contains l p) (sym grows.files_taken) h) grows.put grows.files_put grows.pieces_taken (All-nil (IsBelow root))
+    (λ p. let a = acc_times root [] new r p in let b = acc_times root loaded kept s p in let e = made p in let m = passed.most p in let g = ap (times p) grows.pieces_put in let h = times-append p put (paths_put root 2 s) in omega arith)
     (λ none. let both = or_left lost (not all) none in (
       both.0,
       λ p.
-          let a = acc_times root [] new r p in let b = acc_times root lot kept s p in let e = made p in let m = passed.same (not_false all both.1) p in let g = ap (times p) grows.pieces_put in let h = times-append p put (paths_put root 2 s) in omega arith,
+          let a = acc_times root [] new r p in let b = acc_times root loaded kept s p in let e = made p in let m = passed.same (not_false all both.1) p in let g = ap (times p) grows.pieces_put in let h = times-append p put (paths_put root 2 s) in omega arith,
     ))
 
 -- or lost
-pub gathered_without : (root : Path) (lot : List Path) (kept : List Index) (files : List Path) (lost : Bool) (s r : Share) → HasGathered root lot kept files lost s → Grows root nothing s r → HasGathered root [] kept files (lost || not false) r
-gathered_without root lot kept files lost s r was grows =
-    gathered_less root lot [] kept kept files lost (lost || not false) s r was (λ p h. subst (λ l. Contains l p) (sym grows.files_taken) h) grows.put grows.files_put grows.pieces_taken (All-nil (IsBelow root))
-    (λ p. let a = acc_times root [] kept r p in let b = acc_times root lot kept s p in let g = ap (times p) grows.pieces_put in omega arith)
+pub gathered_without : (root : Path) (loaded : List Path) (kept : List Index) (files : List Path) (lost : Bool) (s r : Share) → HasGathered root loaded kept files lost s → Grows root nothing s r → HasGathered root [] kept files (lost || not false) r
+gathered_without root loaded kept files lost s r was grows =
+    gathered_less root loaded [] kept kept files lost (lost || not false) s r was (λ p h. subst (λ l. Contains l p) (sym grows.files_taken) h) grows.put grows.files_put grows.pieces_taken (All-nil (IsBelow root))
+    (λ p. let a = acc_times root [] kept r p in let b = acc_times root loaded kept s p in let g = ap (times p) grows.pieces_put in omega arith)
     (λ none. let both = or_left lost (not false) none in absurd (cc))
 
 -- nothing was lost
-pub gathered_still : (root : Path) (lot : List Path) (kept : List Index) (files : List Path) (lost : Bool) (s : Share) → HasGathered root lot kept files lost s → HasGathered root lot kept files (lost || not true) s
-gathered_still root lot kept files true s was = was
-gathered_still root lot kept files false s was = was
+pub gathered_still : (root : Path) (loaded : List Path) (kept : List Index) (files : List Path) (lost : Bool) (s : Share) → HasGathered root loaded kept files lost s → HasGathered root loaded kept files (lost || not true) s
+gathered_still root loaded kept files true s was = was
+gathered_still root loaded kept files false s was = was
 
 -- a piece that the buffer took, that was kept, or that was lost
 pub passed_put : (root : Path) (x : Index) (kept : List Index) → IsPassedOn root (covered root x) (covered root x) kept kept true
@@ -407,44 +407,44 @@ pub may_left : (p : Run) (x : Index) (rest old new : List Index) (put : List Pat
 may_left p x rest old new put all a b between gets passed may =
     of_after p (record nothing { pieces_put = put }) a b (MayPutPieces p.world (x ∷ rest)) (MayPutPieces p.world rest) between gets may (λ s r grows h. may_later p.world x rest old new put all s r passed grows h)
 
-module _ (p : Run) (lot : List Path) (kept : List Index) (files : List Path) (lost : Bool) (a b : Worker) (between : IsBetween p a) where
-  -- nothing was done with the lot
-  pub share_still : OfShare a (HasGathered p.world lot kept files lost) → OfShare a (HasGathered p.world lot kept files (lost || not true))
-  share_still was s at = gathered_still p.world lot kept files lost s (was s at)
+module _ (p : Run) (loaded : List Path) (kept : List Index) (files : List Path) (lost : Bool) (a b : Worker) (between : IsBetween p a) where
+  -- nothing was done with the read files
+  pub share_still : OfShare a (HasGathered p.world loaded kept files lost) → OfShare a (HasGathered p.world loaded kept files (lost || not true))
+  share_still was s at = gathered_still p.world loaded kept files lost s (was s at)
 
-  pub share_took : (taken : List Path) → Gets p (record nothing { files_taken = taken }) a b → OfShare a (HasGathered p.world lot kept files lost) → OfShare b (HasGathered p.world lot kept files lost)
-  share_took taken gets was = of_after p (record nothing { files_taken = taken }) a b (HasGathered p.world lot kept files lost) (HasGathered p.world lot kept files lost) between gets was (λ s r grows h. gathered_took p.world lot kept files taken lost s r grows h)
+  pub share_took : (taken : List Path) → Gets p (record nothing { files_taken = taken }) a b → OfShare a (HasGathered p.world loaded kept files lost) → OfShare b (HasGathered p.world loaded kept files lost)
+  share_took taken gets was = of_after p (record nothing { files_taken = taken }) a b (HasGathered p.world loaded kept files lost) (HasGathered p.world loaded kept files lost) between gets was (λ s r grows h. gathered_took p.world loaded kept files taken lost s r grows h)
 
-  pub share_without : Gets p nothing a b → OfShare a (HasGathered p.world lot kept files lost) → OfShare b (HasGathered p.world [] kept files (lost || not false))
-  share_without gets was = of_after p nothing a b (HasGathered p.world lot kept files lost) (HasGathered p.world [] kept files (lost || not false)) between gets was (λ s r grows h. gathered_without p.world lot kept files lost s r h grows)
+  pub share_without : Gets p nothing a b → OfShare a (HasGathered p.world loaded kept files lost) → OfShare b (HasGathered p.world [] kept files (lost || not false))
+  share_without gets was = of_after p nothing a b (HasGathered p.world loaded kept files lost) (HasGathered p.world [] kept files (lost || not false)) between gets was (λ s r grows h. gathered_without p.world loaded kept files lost s r h grows)
 
-  pub share_passed : (new : List Index) (put : List Path) (all : Bool) (ps : List Index) → ((s : Share) → HasGathered p.world lot kept files lost s → (q : Path) → times q (flat_map (covered p.world) ps) ≡ times q lot) → Gets p (record nothing { pieces_put = put }) a b
-      → IsPassedOn p.world (flat_map (covered p.world) ps) put kept new all → OfShare a (HasGathered p.world lot kept files lost) → OfShare b (HasGathered p.world [] new files (lost || not all))
-  share_passed new put all ps made gets passed was = of_after p (record nothing { pieces_put = put }) a b (HasGathered p.world lot kept files lost) (HasGathered p.world [] new files (lost || not all)) between gets was
-      (λ s r grows h. gathered_passed p.world lot kept new files put lost all s r ps h (made s h) grows passed)
+  pub share_passed : (new : List Index) (put : List Path) (all : Bool) (ps : List Index) → ((s : Share) → HasGathered p.world loaded kept files lost s → (q : Path) → times q (flat_map (covered p.world) ps) ≡ times q loaded) → Gets p (record nothing { pieces_put = put }) a b
+      → IsPassedOn p.world (flat_map (covered p.world) ps) put kept new all → OfShare a (HasGathered p.world loaded kept files lost) → OfShare b (HasGathered p.world [] new files (lost || not all))
+  share_passed new put all ps made gets passed was = of_after p (record nothing { pieces_put = put }) a b (HasGathered p.world loaded kept files lost) (HasGathered p.world [] new files (lost || not all)) between gets was
+      (λ s r grows h. gathered_passed p.world loaded kept new files put lost all s r ps h (made s h) grows passed)
 
--- a file was taken, and read into the lot or not
-pub share_read : (p : Run) (lot then_lot : List Path) (kept : List Index) (files more taken : List Path) (path : Path) (lost : Bool) (a b : Worker) → IsBetween p a → taken ≡ path ∷ [] → Gets p (record nothing { files_taken = taken }) a b → OfShare a (IsNewFile p.world path)
-    → ReadsInto path lot then_lot more lost → OfShare a (HasGathered p.world lot kept files false) → OfShare b (HasGathered p.world then_lot kept (files ++ more) lost)
-share_read p lot then_lot kept files more taken path lost a b between is gets new reads was =
-    of_after p (record nothing { files_taken = path ∷ [] }) a b (λ (s : Share). HasGathered p.world lot kept files false s × IsNewFile p.world path s) (HasGathered p.world then_lot kept (files ++ more) lost) between
-    (subst (λ l. Gets p (record nothing { files_taken = l }) a b) is gets) (λ s at. (was s at, new s at)) (λ s r grows h. gathered_read p.world lot kept files s r path h.0 h.1 grows then_lot more lost reads)
+-- a file was taken, and read into the read files or not
+pub share_read : (p : Run) (loaded then_lot : List Path) (kept : List Index) (files more taken : List Path) (path : Path) (lost : Bool) (a b : Worker) → IsBetween p a → taken ≡ path ∷ [] → Gets p (record nothing { files_taken = taken }) a b → OfShare a (IsNewFile p.world path)
+    → ReadsInto path loaded then_lot more lost → OfShare a (HasGathered p.world loaded kept files false) → OfShare b (HasGathered p.world then_lot kept (files ++ more) lost)
+share_read p loaded then_lot kept files more taken path lost a b between is gets new reads was =
+    of_after p (record nothing { files_taken = path ∷ [] }) a b (λ (s : Share). HasGathered p.world loaded kept files false s × IsNewFile p.world path s) (HasGathered p.world then_lot kept (files ++ more) lost) between
+    (subst (λ l. Gets p (record nothing { files_taken = l }) a b) is gets) (λ s at. (was s at, new s at)) (λ s r grows h. gathered_read p.world loaded kept files s r path h.0 h.1 grows then_lot more lost reads)
 
--- the pieces that were made of a lot
-pub made_of : (w root : Path) (lot made : List ReadFile) (ps : List Index) (kept : List Index) (files : List Path) (lost : Bool) (s : Share) → root ≡ w → made ≡ lot → ((o : Option Told) → AreRead o made → All (IsFilesPiece o root) ps)
-    → ((q : Path) → IsCovered ps q ↔ IsReadAt root made q) → (AreDistinct (lot_paths made) → AreApart ps) → HasGathered w (lot_paths lot) kept files lost s → (p : Path) → times p (flat_map (covered w) ps) ≡ times p (lot_paths lot)
-made_of w root lot made ps kept files lost s is same pieces covers apart was p =
-    let once = distinct_left (lot_paths lot) (flat_map (covered w) kept ++ paths_put w 2 s) was.once in
+-- the pieces that were made of a list of read files
+pub made_of : (w root : Path) (loaded made : List ReadFile) (ps : List Index) (kept : List Index) (files : List Path) (lost : Bool) (s : Share) → root ≡ w → made ≡ loaded → ((o : Option Told) → AreRead o made → All (IsFilesPiece o root) ps)
+    → ((q : Path) → IsCovered ps q ↔ IsReadAt root made q) → (AreDistinct (lot_paths made) → AreApart ps) → HasGathered w (lot_paths loaded) kept files lost s → (p : Path) → times p (flat_map (covered w) ps) ≡ times p (lot_paths loaded)
+made_of w root loaded made ps kept files lost s is same pieces covers apart was p =
+    let once = distinct_left (lot_paths loaded) (flat_map (covered w) kept ++ paths_put w 2 s) was.once in
     let read : AreRead None made = λ k d within. tt in
-    lot_same w lot ps once was.below (subst (λ r. All (IsFilesPiece None r) ps) is (pieces None read)) (apart (subst (λ l. AreDistinct (lot_paths l)) (sym same) once))
+    lot_same w loaded ps once was.below (subst (λ r. All (IsFilesPiece None r) ps) is (pieces None read)) (apart (subst (λ l. AreDistinct (lot_paths l)) (sym same) once))
     (λ q. (λ h. subst (λ l. IsReadAt w l q) same (subst (λ r. IsReadAt r made q) is ((covers q).0 h)), λ h. (covers q).1 (subst (λ r. IsReadAt r made q) (sym is) (subst (λ l. IsReadAt w l q) (sym same) h)))) p
 
--- the last lot that isn't due is empty
-pub not_due : (lot : Lot) (last due : Bool) → due ≡ false → (IsTrue due ↔ IsDue lot last) → IsTrue last → lot.files.items ≡ []
-not_due lot last due off says end = nil_from_length lot.files.items (⊎_elim
-    (λ (none : vec_len lot.files ≤ 0). let e = lot.files.ok.0 in omega arith)
-    (λ (some : 0 < vec_len lot.files). let on : due ≡ true = says.1 (some, inl end) in absurd (cc))
-    (some_or_none (vec_len lot.files)))
+-- the last list that isn't due is empty
+pub not_due : (loaded : ReadFiles) (last due : Bool) → due ≡ false → (IsTrue due ↔ IsDue loaded last) → IsTrue last → loaded.files.items ≡ []
+not_due loaded last due off says end = nil_from_length loaded.files.items (⊎_elim
+    (λ (none : vec_len loaded.files ≤ 0). let e = loaded.files.ok.0 in omega arith)
+    (λ (some : 0 < vec_len loaded.files). let on : due ≡ true = says.1 (some, inl end) in absurd (cc))
+    (some_or_none (vec_len loaded.files)))
   where
     some_or_none : (n : ℕ) → (n ≤ 0) ⊎ (0 < n)
     some_or_none zero = inl (omega arith)

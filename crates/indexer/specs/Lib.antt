@@ -5,7 +5,7 @@ pub mod Gets
 pub mod Hands
 pub mod States
 pub mod Walks
-pub mod Lots
+pub mod ReadFiles
 pub mod Once
 pub mod Roles
 pub mod Jobs

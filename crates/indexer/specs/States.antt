@@ -11,7 +11,7 @@ use Rattle.index_findings.specs.Pieces.{IsCovered}
 use Rattle.index_findings.specs.Rest.{IsCoveredFile}
 use Rattle.index_findings.specs.Visits.{IsFoundDir, IsFoundFile, dirs_listed}
 use Rattle.index_findings.specs.declared.findings.Visit.{Visit}
-use Rattle.index_findings.specs.declared.lots.ReadFile.{ReadFile}
+use Rattle.index_findings.specs.declared.read_files.ReadFile.{ReadFile}
 use Rattle.index_rule.specs.Children.{IsBelow}
 use Rattle.index_rule.specs.Counting.{times}
 use Rattle.index_rule.specs.Distinct.{AreDisjoint, AreDistinct}
@@ -36,20 +36,20 @@ pub record KeepsListing (dir : Path) (old new : List Visit) (ds fs : List Path) 
   pub dirs : ds ≡ listing.dirs.items
   pub files : fs ≡ listing.files.items
 
--- the files that a parser has, or has put in pieces: those of the lot, of the pieces that it kept,
+-- the files that a parser has, or has put in pieces: those of the read files, of the pieces that it kept,
 -- and of those that it put
 abbrev pub accounted : Path → List Path → List Index → Share → List Path
-accounted root lot kept s = lot ++ (flat_map (covered root) kept ++ paths_put root 2 s)
+accounted root loaded kept s = loaded ++ (flat_map (covered root) kept ++ paths_put root 2 s)
 
 -- a parser has each of these files once, and took it from the buffer; unless something was lost
 -- they are the files that it read; and it did nothing else
-pub record HasGathered (root : Path) (lot : List Path) (kept : List Index) (files : List Path) (lost : Bool) (s : Share) : Type 0 where
-  pub once : AreDistinct (accounted root lot kept s)
-  pub took : All (Contains (paths_taken root 1 s)) (accounted root lot kept s)
-  pub below : All (IsBelow root) lot
+pub record HasGathered (root : Path) (loaded : List Path) (kept : List Index) (files : List Path) (lost : Bool) (s : Share) : Type 0 where
+  pub once : AreDistinct (accounted root loaded kept s)
+  pub took : All (Contains (paths_taken root 1 s)) (accounted root loaded kept s)
+  pub below : All (IsBelow root) loaded
   pub files_once : AreDistinct files
   pub files_took : All (Contains (paths_taken root 1 s)) files
-  pub same : lost ≡ false → (p : Path) → times p files ≡ times p (accounted root lot kept s)
+  pub same : lost ≡ false → (p : Path) → times p files ≡ times p (accounted root loaded kept s)
   pub no_dirs : s.put ≡ []
   pub no_files : paths_put root 1 s ≡ []
   pub no_merges : paths_taken root 2 s ≡ []
@@ -69,7 +69,7 @@ pub record MayPutPieces (root : Path) (pieces : List Index) (s : Share) : Type 0
   pub once : AreDistinct (flat_map (covered root) pieces)
   pub new : AreDisjoint (flat_map (covered root) pieces) (paths_put root 2 s)
 
--- a file was read into a lot; or it wasn't read, or it was read and lost
+-- a file was read into a list of read files; or it wasn't read, or it was read and lost
 abbrev pub ReadsInto : Path → List Path → List Path → List Path → Bool → Type 0
 ReadsInto path old new more lost = ((more ≡ path ∷ []) × (new ≡ old ++ path ∷ []))
     ⊎ ((new ≡ old) × ((more ≡ []) ⊎ ((more ≡ path ∷ []) × (lost ≡ true))))

@@ -13,28 +13,19 @@
 #![tactic(auto)]
 
 mod answer;
-mod crew;
-mod ending;
-mod files;
-mod handing;
-mod indexing;
+mod calls;
 mod job;
-mod mergers;
-mod opening;
-mod parsing;
-mod pieces;
 mod plan;
-mod running;
-mod turns;
-mod walking;
+mod run;
 mod work;
 mod work_end;
+mod workers;
 
 pub use answer::IndexAnswer;
 pub use index_rule::{
     DidMove, DidPut, DidShut, DidTake, DirsInWork, FoundCounts, IndexItem, IndexUses, IndexValue,
     WaitingDirs,
 };
-pub use indexing::{index, index_with};
 pub use package_crew::{BeforeStart, BeginsAtOnce};
 pub use plan::{Plan, index_layout};
+pub use run::indexing::{index, index_with};

@@ -27,7 +27,7 @@ TellsStop {J} n threads items mine =
     ⊎ ((before : List (Item (Batch J))) × (last : Item (Batch J)) × (es : List Event) × AllByRecursion IsUnstopped before
     × (items ≡ before ++ last ∷ []) × (mine ≡ es ++ alerts_by n threads))
 
--- the thread n has worked on these batches, and told a Stop
+-- the thread n has worked on these batches, and reported a Stop
 pub record HasEndedWork {J : Type 0} (state : J → List ℕ) (gives : J → Work) (next : J → List ℕ) (p : Shape (Unit {0})) (n : ℕ)
     (items : List (Item (Batch J))) (t : Worker (Batch J)) : Type 0 where
   pub worked : HasWorked (MayBeWorked state gives next) p n items t

@@ -1,4 +1,4 @@
--- The table of actions: for each its word, the names behind the word, and its ending.
+-- The table of actions: for each its word, the names after the word, and its ending.
 use Rattle.std.specs.Prelude.{◌≡◌, ◌⊎◌, ℕ, Bool, true, false, List, [], ◌∷◌, codes, if◌then◌else◌}
 use Rattle.larch_actions.specs.declared.event.Version.{Version}
 use Rattle.larch_actions.specs.declared.event.Version.TheVariants as version
@@ -50,7 +50,7 @@ since word.End = version.Two
 since word.Join = version.Two
 since _ = version.One
 
--- what the names behind it are
+-- what the names after it are
 abbrev pub kinds_of : Word → Kinds
 kinds_of word.Acquire = kinds.One Mutex
 kinds_of word.Release = kinds.One Mutex

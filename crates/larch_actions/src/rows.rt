@@ -1,4 +1,4 @@
-//! The table of actions: for each its word, the names behind the word, and its ending.
+//! The table of actions: for each its word, the names after the word, and its ending.
 //!
 //! A further action is a variant of `Action` and of `Word`, a row in each function here, in specs/Rows.antt and proofs/Table.antt, and what it
 //! asks and does in specs/Actions.antt. Which names are lawful, texts, their printing and their reading follow from the rows.
@@ -28,14 +28,14 @@ pub enum Word {
     Join,
 }
 
-/// The numbers of the names behind a word, in order. Where fewer stand there, the others are 0.
+/// The numbers of the names after a word, in order. If there are fewer, the others are 0.
 #[derive(Clone, Copy)]
 pub struct Numbers {
     pub first: u32,
     pub second: u32,
 }
 
-/// What the names behind a word are.
+/// What the names after a word are.
 #[derive(Clone, Copy)]
 pub enum Kinds {
     Nothing,
@@ -43,7 +43,7 @@ pub enum Kinds {
     Two(Kind, Kind),
 }
 
-/// Which endings may stand behind the names.
+/// Which endings may follow the names.
 #[derive(Clone, Copy)]
 pub enum Endings {
     Nothing,
@@ -55,7 +55,7 @@ pub enum Endings {
     Threads,
 }
 
-/// What stands behind the names.
+/// What follows the names.
 #[derive(Clone, Copy)]
 pub enum Ending {
     Nothing,
@@ -134,7 +134,7 @@ impl Word {
         }
     }
 
-    /// What the names behind it are.
+    /// What the names after it are.
     #[inline(always)]
     pub fn kinds(self) -> Kinds
         ensures { result ≡ kinds_of self }

@@ -7,8 +7,8 @@ use Rattle.larch_actions.specs.Actions.{Spec, Acts, IsRun, acted, put, at_first}
 use Rattle.larch_actions.specs.State.{shown_at}
 use Rattle.trace_check.proofs.Runs.{leads-push}
 use Rattle.lock_order.specs.declared.mutex_set.MutexSet.{MutexSet}
-use Rattle.lock_order.specs.declared.nestings.First.{First}
-use Rattle.lock_order.specs.declared.nestings.Nestings.{Nestings}
+use Rattle.lock_order.specs.declared.lock_graph.First.{First}
+use Rattle.lock_order.specs.declared.lock_graph.LockGraph.{LockGraph}
 use Rattle.lock_order.specs.Sets.{in_mutexes}
 use Rattle.lock_order.specs.Order.{got, Nests}
 use Rattle.lock_order.specs.Kept.{given, is_thread, holds, has_held, stands, first_thread, first_place, Before, IsKept, HasGot, HasGiven}
@@ -37,7 +37,7 @@ or-here true = refl
 or-here false = refl
 
 -- what stands before what, once a mutex was got: what stood, or the new ones
-stood : {A : Type 0} (k k' : Nestings) (t n place : ℕ) → HasGot k t n place k' → (m i : ℕ) → Before k' m i
+stood : {A : Type 0} (k k' : LockGraph) (t n place : ℕ) → HasGot k t n place k' → (m i : ℕ) → Before k' m i
     → (Before k m i → A) → (n ≡ i → stands k m n ≡ false → has_held k t m ≡ true → A) → A
 stood k k' t n place got m i b old new =
     let e = sym (got.standing m i) ∙ b in
@@ -51,7 +51,7 @@ stood k k' t n place got m i b old new =
       | inr p ↦ old (sym (ap (λ c. cond c (stands k m i || has_held k t m) (stands k m i)) p.1) ∙ e)
     ]
 
-still : (k k' : Nestings) (t n place : ℕ) → HasGot k t n place k' → (m i : ℕ) → Before k m i → Before k' m i
+still : (k k' : LockGraph) (t n place : ℕ) → HasGot k t n place k' → (m i : ℕ) → Before k m i → Before k' m i
 still k k' t n place got m i b =
     got.standing m i ∙ ap (λ c. cond (eqb n i) (c || has_held k t m) c) b ∙ either (eqb n i) (has_held k t m)
   where
@@ -60,12 +60,12 @@ still k k' t n place got m i b =
     either false d = refl
 
 -- who is held before, stands before
-here : (k k' : Nestings) (t n place : ℕ) → HasGot k t n place k' → (m : ℕ) → has_held k t m ≡ true → Before k' m n
+here : (k k' : LockGraph) (t n place : ℕ) → HasGot k t n place k' → (m : ℕ) → has_held k t m ≡ true → Before k' m n
 here k k' t n place got m h =
     got.standing m n ∙ ap (λ c. cond c (stands k m n || has_held k t m) (stands k m n)) (eq-eqb n n refl) ∙ ap (λ c. stands k m n || c) h ∙ or-here (stands k m n)
 
 -- a thread that holds with the new one held before, or has got it
-got_low : (k k' : Nestings) (t n place : ℕ) → n < 64 → HasGot k t n place k' → ((u m : ℕ) → has_held k u m ≡ true → m < 64) → (u m : ℕ) → has_held k' u m ≡ true → m < 64
+got_low : (k k' : LockGraph) (t n place : ℕ) → n < 64 → HasGot k t n place k' → ((u m : ℕ) → has_held k u m ≡ true → m < 64) → (u m : ℕ) → has_held k' u m ≡ true → m < 64
 got_low k k' t n place small got low u m is =
     elim (same_or n m) [
       | inl p ↦ subst (λ z. z < 64) p.0 small
@@ -141,19 +141,19 @@ module _ (es : List Event) (now next : Spec) (e : Event) (a : Acts now e next) w
       ]
 
   -- the event changes nothing of what is kept
-  pub keeps : (k : Nestings) → got e.action ≡ none → (acted e.thread.0 now e.action).holder ≡ now.holder → IsKept es now k → IsKept (es ++ e ∷ []) next k
+  pub keeps : (k : LockGraph) → got e.action ≡ none → (acted e.thread.0 now e.action).holder ≡ now.holder → IsKept es now k → IsKept (es ++ e ∷ []) next k
   keeps k idle same kept = record {
     version = kept.version;
     run = leads-push (at_first kept.version) now next es e kept.run a;
     held = λ t m. kept.held t m ∙ sym (next_holds now.holder same t m);
     held_low = kept.held_low;
     low = kept.low;
-    nested = λ m n b. nests-more es e m n (first_thread k m n) (first_place k m n) (kept.nested m n b);
+    edge = λ m n b. nests-more es e m n (first_thread k m n) (first_place k m n) (kept.edge m n b);
     least = λ m n t p h. kept.least m n t p (old_nests kept.version m n t p idle kept.run h);
   }
 
   -- the event gives a mutex back
-  pub keeps_given : (k k' : Nestings) (n : ℕ) → got e.action ≡ none → given e.action ≡ some n → HasGiven k e.thread.0 n k' → IsKept es now k → IsKept (es ++ e ∷ []) next k'
+  pub keeps_given : (k k' : LockGraph) (n : ℕ) → got e.action ≡ none → given e.action ≡ some n → HasGiven k e.thread.0 n k' → IsKept es now k → IsKept (es ++ e ∷ []) next k'
   keeps_given k k' n idle gives g kept =
       let t = e.thread.0 in
       let mine = given_requires t now e.action n gives a.0.requires_met in
@@ -169,14 +169,14 @@ module _ (es : List Event) (now next : Spec) (e : Event) (a : Acts now e next) w
         held = holding;
         held_low = λ u m is. kept.held_low u m (given_was (eqb t u) (eqb n m) (has_held k u m) (sym (g.held u m) ∙ is));
         low = λ m i b. kept.low m i (sym (before m i) ∙ b);
-        nested = λ m i b.
+        edge = λ m i b.
             nests_at (es ++ e ∷ []) m i (first_thread k m i) (first_thread k' m i) (first_place k m i) (first_place k' m i) (thread m i) (place m i)
-            (nests-more es e m i (first_thread k m i) (first_place k m i) (kept.nested m i (sym (before m i) ∙ b)));
+            (nests-more es e m i (first_thread k m i) (first_place k m i) (kept.edge m i (sym (before m i) ∙ b)));
         least = λ m i u p h. let l = kept.least m i u p (old_nests kept.version m i u p idle kept.run h) in (before m i ∙ l.0, subst (λ z. z ≤ p) (sym (place m i)) l.1);
       }
 
   -- the event gets a mutex
-  pub keeps_got : (k k' : Nestings) (n : ℕ) → n < 64 → got e.action ≡ some n → HasGot k e.thread.0 n (length es) k' → IsKept es now k → IsKept (es ++ e ∷ []) next k'
+  pub keeps_got : (k k' : LockGraph) (n : ℕ) → n < 64 → got e.action ≡ some n → HasGot k e.thread.0 n (length es) k' → IsKept es now k → IsKept (es ++ e ∷ []) next k'
   keeps_got k k' n small gets g kept =
       let t = e.thread.0 in
       let free = got_when t now e.action n gets a.0.when_met in
@@ -189,7 +189,7 @@ module _ (es : List Event) (now next : Spec) (e : Event) (a : Acts now e next) w
         held = holding;
         held_low = got_low k k' t n (length es) small g kept.held_low;
         low = λ m i b. stood k k' t n (length es) g m i b (kept.low m i) (λ same new h. kept.held_low t m h);
-        nested = λ m i b. stood k k' t n (length es) g m i b (got_old k k' n g kept m i) (got_new k k' n gets g kept m i);
+        edge = λ m i b. stood k k' t n (length es) g m i b (got_old k k' n g kept m i) (got_new k k' n gets g kept m i);
         least = λ m i u p h. elim (nests-either kept.version es now e m i u p kept.run h) [
           | inl old ↦
               let l = kept.least m i u p old in
@@ -199,13 +199,13 @@ module _ (es : List Event) (now next : Spec) (e : Event) (a : Acts now e next) w
         ];
       }
     where
-      got_old : (k k' : Nestings) (n : ℕ) → HasGot k e.thread.0 n (length es) k' → IsKept es now k → (m i : ℕ) → Before k m i → Nests (es ++ e ∷ []) m i (first_thread k' m i) (first_place k' m i)
+      got_old : (k k' : LockGraph) (n : ℕ) → HasGot k e.thread.0 n (length es) k' → IsKept es now k → (m i : ℕ) → Before k m i → Nests (es ++ e ∷ []) m i (first_thread k' m i) (first_place k' m i)
       got_old k k' n g kept m i old =
           let s = g.stays m i (kept.low m i old) old in
           nests_at (es ++ e ∷ []) m i (first_thread k m i) (first_thread k' m i) (first_place k m i) (first_place k' m i) s.0 s.1
-          (nests-more es e m i (first_thread k m i) (first_place k m i) (kept.nested m i old))
+          (nests-more es e m i (first_thread k m i) (first_place k m i) (kept.edge m i old))
 
-      got_new : (k k' : Nestings) (n : ℕ) → got e.action ≡ some n → HasGot k e.thread.0 n (length es) k' → IsKept es now k → (m i : ℕ) → n ≡ i → stands k m n ≡ false → has_held k e.thread.0 m ≡ true
+      got_new : (k k' : LockGraph) (n : ℕ) → got e.action ≡ some n → HasGot k e.thread.0 n (length es) k' → IsKept es now k → (m i : ℕ) → n ≡ i → stands k m n ≡ false → has_held k e.thread.0 m ≡ true
           → Nests (es ++ e ∷ []) m i (first_thread k' m i) (first_place k' m i)
       got_new k k' n gets g kept m i same new h =
           let s = g.fresh m new h in
@@ -214,7 +214,7 @@ module _ (es : List Event) (now next : Spec) (e : Event) (a : Acts now e next) w
           (nests_at (es ++ e ∷ []) m n e.thread.0 (first_thread k' m n) (length es) (first_place k' m n) s.0 s.1
           (nests-now kept.version es now e m n e.thread.0 (length es) kept.run (record { counted = refl; actor = refl; gets = gets; holds = mine })))
 
-      got_least : (k k' : Nestings) (n : ℕ) → got e.action ≡ some n → HasGot k e.thread.0 n (length es) k' → IsKept es now k → (m i u p : ℕ) → NestsNow es now e m i u p → Before k' m i × (first_place k' m i ≤ p)
+      got_least : (k k' : LockGraph) (n : ℕ) → got e.action ≡ some n → HasGot k e.thread.0 n (length es) k' → IsKept es now k → (m i u p : ℕ) → NestsNow es now e m i u p → Before k' m i × (first_place k' m i ≤ p)
       got_least k k' n gets g kept m i u p new =
           let same : n ≡ i = some-injective n i (sym gets ∙ new.gets) in
           let h : has_held k e.thread.0 m ≡ true = kept.held e.thread.0 m ∙ is_holder now e.thread.0 m (new.holds ∙ ap some (sym new.actor)) in
@@ -222,7 +222,7 @@ module _ (es : List Event) (now next : Spec) (e : Event) (a : Acts now e next) w
           let least : first_place k' m n ≤ p = elim (true_or (stands k m n)) [
             | inl old ↦
                 let s = g.stays m n (kept.low m n old) old in
-                let early = nests-early es m n (first_thread k m n) (first_place k m n) (kept.nested m n old) in
+                let early = nests-early es m n (first_thread k m n) (first_place k m n) (kept.edge m n old) in
                 omega (arith, s.1, new.counted, early)
             | inr out ↦ let s = g.fresh m out h in omega (arith, s.1, new.counted)
           ]

@@ -2,7 +2,7 @@
 use Rattle.std.proofs.Common.{◌≡◌, ℕ, ◌<◌, ◌&&◌, Bool, true, false, cond, eqb, inl, inr, List, [], ◌∷◌, refl, ap, ◌∙◌, arith}
 use Rattle.larch_actions.proofs.Sets.{mem-here}
 use Rattle.lock_order.specs.declared.mutex_set.MutexSet.{MutexSet}
-use Rattle.lock_order.specs.declared.nestings.Nestings.{Nestings}
+use Rattle.lock_order.specs.declared.lock_graph.LockGraph.{LockGraph}
 use Rattle.lock_order.specs.Sets.{in_mutexes}
 use Rattle.lock_order.specs.Order.{IsCycle}
 use Rattle.lock_order.specs.Kept.{Before, stands}
@@ -22,11 +22,11 @@ and_second true c e = e
 and_second false c e = absurd (let f : false ≡ true = e in cc)
 
 -- at first all are in
-pub holds_all : (k : Nestings) (set : MutexSet) → AreLow k → ((m : ℕ) → m < 64 → in_mutexes set m ≡ true) → HoldsCycles k set
+pub holds_all : (k : LockGraph) (set : MutexSet) → AreLow k → ((m : ℕ) → m < 64 → in_mutexes set m ≡ true) → HoldsCycles k set
 holds_all k set low all = λ ms c m e. let after = ring-after (Before k) ms m c.ring e in all m (low m after.0 after.1)
 
 -- a mutex before which none of them stands is in no cycle
-pub holds_rest : (k : Nestings) (set set' : MutexSet) (n : ℕ) → HoldsCycles k set → IsForemost k set n
+pub holds_rest : (k : LockGraph) (set set' : MutexSet) (n : ℕ) → HoldsCycles k set → IsForemost k set n
     → ((m : ℕ) → in_mutexes set' m ≡ cond (eqb n m) false (in_mutexes set m)) → HoldsCycles k set'
 holds_rest k set set' n all out less = λ ms c m e.
     elim (same_or n m) [
@@ -38,10 +38,10 @@ holds_rest k set set' n all out less = λ ms c m e.
     ]
 
 -- where none is left there is no cycle
-pub no_cycle : (k : Nestings) (set : MutexSet) (ms : List ℕ) → HoldsCycles k set → ((m : ℕ) → in_mutexes set m ≡ false) → IsCycle (Before k) ms → ⊥
+pub no_cycle : (k : LockGraph) (set : MutexSet) (ms : List ℕ) → HoldsCycles k set → ((m : ℕ) → in_mutexes set m ≡ false) → IsCycle (Before k) ms → ⊥
 no_cycle k set [] all none c = let two = c.two in omega arith
 no_cycle k set (m ∷ ms) all none c = both_ways (in_mutexes set m) (all (m ∷ ms) c m (mem-here m m ms refl)) (none m)
 
 -- before each of the set below j stands one of the set
-abbrev pub IsKnotBelow : ℕ → Nestings → MutexSet → Type 0
+abbrev pub IsKnotBelow : ℕ → LockGraph → MutexSet → Type 0
 IsKnotBelow j k set = (n : ℕ) → n < j → in_mutexes set n ≡ true → (m : ℕ) × (in_mutexes set m ≡ true) × Before k m n

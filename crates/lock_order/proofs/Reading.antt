@@ -19,16 +19,16 @@ use Rattle.trace_check.specs.declared.checker.Verdict.TheVariants.{Legal}
 use Rattle.trace_check.specs.Verdicts.{refusal}
 use Rattle.trace_check.specs.Watching.{IsNext, IsReadTo, HasWatched}
 use Rattle.trace_check.proofs.Runs.{leads-split}
-use Rattle.lock_order.specs.declared.nestings.Nestings.{Nestings}
+use Rattle.lock_order.specs.declared.lock_graph.LockGraph.{LockGraph}
 use Rattle.lock_order.specs.declared.answer.OrderAnswer.{OrderAnswer}
 use Rattle.lock_order.specs.declared.answer.OrderAnswer.TheVariants.{NoCycle, Found}
 use Rattle.lock_order.specs.Order.{got}
 use Rattle.lock_order.specs.Answers.{IsLegalTrace, IsJustAnswer}
-use Rattle.lock_order.specs.Kept.{given, HasPlace, IsKept, IsOrderOf, IsNoted, KeepsNested}
+use Rattle.lock_order.specs.Kept.{given, HasPlace, IsKept, IsOrderOf, IsNoted, KeepsEdges}
 
 -- one more event
-pub nested_goes : (first : Nestings) (l : Layout) (es : List Event) (on : Bool) (k k' : Nestings) (place : ℕ) (e : Event) → KeepsNested first l es on k → IsNext l es place e
-    → (on ≡ true → (xs : List Event) (s s' : Spec) → place ≡ length xs → Acts s e s' → IsKept xs s k → IsKept (xs ++ e ∷ []) s' k') → KeepsNested first l (es ++ e ∷ []) on k'
+pub nested_goes : (first : LockGraph) (l : Layout) (es : List Event) (on : Bool) (k k' : LockGraph) (place : ℕ) (e : Event) → KeepsEdges first l es on k → IsNext l es place e
+    → (on ≡ true → (xs : List Event) (s s' : Spec) → place ≡ length xs → Acts s e s' → IsKept xs s k → IsKept (xs ++ e ∷ []) s' k') → KeepsEdges first l (es ++ e ∷ []) on k'
 nested_goes first l es on k k' place e kept n notes = λ new wanted s' run.
     let p = leads-split (at_first l.version) s' es (e ∷ []) run in
     notes wanted es p.0 s' n.counted (subst (λ (z : Spec). Acts p.0 e z) p.2.2 p.2.1) (kept new wanted p.0 p.1)
@@ -53,14 +53,14 @@ never_legal s fault.Read e = subst is_legal e tt
 never_legal s fault.Memory e = subst is_legal e tt
 
 -- of a legal trace it is kept what it nests
-pub noted_of : {W : Type 0} (keeps : W → Layout → List Event → W → Type 0) (budget : ℕ) (left : Option (List ℕ)) (w : W) (layout : Option Layout) (failed : Option Event) (s : Summary) (w' : W) (k : Nestings)
+pub noted_of : {W : Type 0} (keeps : W → Layout → List Event → W → Type 0) (budget : ℕ) (left : Option (List ℕ)) (w : W) (layout : Option Layout) (failed : Option Event) (s : Summary) (w' : W) (k : LockGraph)
     → ((l : Layout) (es : List Event) → keeps w l es w' → (now : Spec) → IsRun l.version es now → IsKept es now k) → HasWatched keeps budget left w layout failed (Legal s) w' → IsNoted budget left (Legal s) k
 noted_of keeps budget left w None failed s w' k kept h = absurd (never_legal s h.2.0 h.2.1)
 noted_of keeps budget left w (Some l) failed s w' k kept h =
     (h.events, h.last, kept l h.events h.kept h.last h.run, h.counted, legal_if budget left l h.events failed s h.read)
 
 -- the answer on a legal trace is just
-pub order_just : (budget : ℕ) (left left' : Option (List ℕ)) (before now : ℕ) (s : Summary) (k : Nestings) (a : OrderAnswer) → (n : IsNoted budget left (Legal s) k) → IsOrderOf n.0 a → IsJustAnswer budget left left' before now a
+pub order_just : (budget : ℕ) (left left' : Option (List ℕ)) (before now : ℕ) (s : Summary) (k : LockGraph) (a : OrderAnswer) → (n : IsNoted budget left (Legal s) k) → IsOrderOf n.0 a → IsJustAnswer budget left left' before now a
 order_just budget None left' before now s k (NoCycle i) n h = tt
 order_just budget (Some bytes) left' before now s k (NoCycle i) n h = (n.0, n.4, h.0, h.1)
 order_just budget None left' before now s k (Found c) n h = tt

@@ -5,13 +5,13 @@ use Rattle.larch_actions.specs.declared.event.MutexId.{MutexId}
 use Rattle.larch_actions.specs.Actions.{at_first}
 use Rattle.larch_actions.specs.State.{shown_at}
 use Rattle.larch_actions.proofs.Shown.{shown_at-get_or, shown_at-set, shown_at-replicate}
-use Rattle.lock_order.specs.declared.answer.Nested.{Nested}
+use Rattle.lock_order.specs.declared.answer.Edge.{Edge}
 use Rattle.lock_order.specs.declared.mutex_set.MutexSet.{MutexSet}
-use Rattle.lock_order.specs.declared.nestings.First.{First}
-use Rattle.lock_order.specs.declared.nestings.Nestings.{Nestings}
+use Rattle.lock_order.specs.declared.lock_graph.First.{First}
+use Rattle.lock_order.specs.declared.lock_graph.LockGraph.{LockGraph}
 use Rattle.lock_order.specs.Sets.{in_mutexes}
 use Rattle.lock_order.specs.Order.{Nests}
-use Rattle.lock_order.specs.Kept.{has_held, stands, first_thread, first_place, IsKept, HasGot, HasNested}
+use Rattle.lock_order.specs.Kept.{has_held, stands, first_thread, first_place, IsKept, HasGot, HasEdge}
 use Rattle.lock_order.specs.Circles.{first_of}
 use Rattle.lock_order.proofs.Numbers.{false_true, both_ways, same_or}
 
@@ -42,10 +42,10 @@ set_word xs t w change low new u m =
           ∙ sym (ap (λ b. cond b (change m (words xs u m)) (words xs u m)) p.1)
     ]
 
--- the first nesting as the table has it
-pub first_is : (k : Nestings) (outer inner : MutexId) → inner.0 * 64 + outer.0 < length k.firsts
+-- the first edge as the table has it
+pub first_is : (k : LockGraph) (outer inner : MutexId) → inner.0 * 64 + outer.0 < length k.firsts
     → (let f = get_or k.firsts (inner.0 * 64 + outer.0) (record { thread = record { 0 = 0 }; place = 0 }) in
-    let n : Nested = record { outer = outer; inner = inner; thread = f.thread; place = f.place } in n) ≡ first_of k outer.0 inner.0
+    let n : Edge = record { outer = outer; inner = inner; thread = f.thread; place = f.place } in n) ≡ first_of k outer.0 inner.0
 first_is k outer inner low =
     let d : First = record { thread = record { 0 = 0 }; place = 0 } in
     let t = sym (shown_at-get_or (λ (f : First). f.thread.0) 0 k.firsts (inner.0 * 64 + outer.0) d low) in
@@ -65,19 +65,19 @@ starts empty h v =
       held = nobody 256;
       held_low = λ t m is. both_ways (words (replicate 256 empty) t m) is (nobody 256 t m);
       low = λ m n is. both_ways (words (replicate 64 empty) n m) is (nobody 64 n m);
-      nested = λ m n is. both_ways (words (replicate 64 empty) n m) is (nobody 64 n m);
+      edge = λ m n is. both_ways (words (replicate 64 empty) n m) is (nobody 64 n m);
       least = λ m n t p x. no_nests m n t p x;
     }
 
 -- Of the set's mutexes those that aren't in the rest are noted.
-pub record IsNesting (old now : Nestings) (these rest : MutexSet) (t n place : ℕ) : Type 0 where
+pub record IsNesting (old now : LockGraph) (these rest : MutexSet) (t n place : ℕ) : Type 0 where
   pub held : now.held ≡ old.held
   pub outers : now.outers ≡ old.outers
   pub within : (m : ℕ) → in_mutexes rest m ≡ true → in_mutexes these m ≡ true
   pub stays : (m k : ℕ) → m < 64 → (n ≡ k → in_mutexes these m ≡ false) → (first_thread now m k ≡ first_thread old m k) × (first_place now m k ≡ first_place old m k)
   pub noted : (m : ℕ) → in_mutexes these m ≡ true → in_mutexes rest m ≡ false → (first_thread now m n ≡ t) × (first_place now m n ≡ place)
 
-pub nesting_starts : (old : Nestings) (these : MutexSet) (t n place : ℕ) → IsNesting old old these these t n place
+pub nesting_starts : (old : LockGraph) (these : MutexSet) (t n place : ℕ) → IsNesting old old these these t n place
 nesting_starts old these t n place = record {
   held = refl;
   outers = refl;
@@ -86,14 +86,14 @@ nesting_starts old these t n place = record {
   noted = λ m e f. both_ways (in_mutexes these m) e f;
 }
 
--- the table in which the first nesting of m before n was noted
-abbrev noting : Nestings → ℕ → ℕ → First → Nestings
+-- the table in which the first edge of m before n was noted
+abbrev noting : LockGraph → ℕ → ℕ → First → LockGraph
 noting k m n f = record k { firsts = set k.firsts (n * 64 + m) f }
 
-noted_same : (k : Nestings) (m n : ℕ) (f : First) → n * 64 + m < length k.firsts → (first_thread (noting k m n f) m n ≡ f.thread.0) × (first_place (noting k m n f) m n ≡ f.place)
+noted_same : (k : LockGraph) (m n : ℕ) (f : First) → n * 64 + m < length k.firsts → (first_thread (noting k m n f) m n ≡ f.thread.0) × (first_place (noting k m n f) m n ≡ f.place)
 noted_same k m n f low = (shown_at-same (λ (f : First). f.thread.0) 0 k.firsts (n * 64 + m) f low, shown_at-same (λ (f : First). f.place) 0 k.firsts (n * 64 + m) f low)
 
-noted_other : (k : Nestings) (m n i j : ℕ) (f : First) → n * 64 + m < length k.firsts → j * 64 + i ≢ n * 64 + m → (first_thread (noting k m n f) i j ≡ first_thread k i j) × (first_place (noting k m n f) i j ≡ first_place k i j)
+noted_other : (k : LockGraph) (m n i j : ℕ) (f : First) → n * 64 + m < length k.firsts → j * 64 + i ≢ n * 64 + m → (first_thread (noting k m n f) i j ≡ first_thread k i j) × (first_place (noting k m n f) i j ≡ first_place k i j)
 noted_other k m n i j f low ne = (shown_at-other (λ (f : First). f.thread.0) 0 k.firsts (n * 64 + m) (j * 64 + i) f low ne, shown_at-other (λ (f : First). f.place) 0 k.firsts (n * 64 + m) (j * 64 + i) f low ne)
 
 was_in : (b c : Bool) → cond b false c ≡ true → c ≡ true
@@ -104,7 +104,7 @@ apart : (m n i j : ℕ) → m < 64 → i < 64 → (n ≡ j → m ≡ i → ⊥) 
 apart m n i j a b ne = λ e. let same : n ≡ j = omega arith in let also : m ≡ i = omega arith in ne same also
 
 -- one more of the rest is noted
-pub nesting_goes : (old now : Nestings) (these rest rest' : MutexSet) (f : First) (n m : ℕ) → IsNesting old now these rest f.thread.0 n f.place → in_mutexes rest m ≡ true → m < 64
+pub nesting_goes : (old now : LockGraph) (these rest rest' : MutexSet) (f : First) (n m : ℕ) → IsNesting old now these rest f.thread.0 n f.place → in_mutexes rest m ≡ true → m < 64
     → ((k : ℕ) → in_mutexes rest' k ≡ cond (eqb m k) false (in_mutexes rest k)) → n * 64 + m < length now.firsts
     → IsNesting old (noting now m n f) these rest' f.thread.0 n f.place
 nesting_goes old now these rest rest' f n m s here low less fits = record {
@@ -125,9 +125,9 @@ nesting_goes old now these rest rest' f n m s here low less fits = record {
 }
 
 -- all are noted
-pub nesting_ends : (old now : Nestings) (these rest w : MutexSet) (t n place : ℕ) → IsNesting old now these rest t n place → ((m : ℕ) → in_mutexes rest m ≡ false) → n < length now.outers
+pub nesting_ends : (old now : LockGraph) (these rest w : MutexSet) (t n place : ℕ) → IsNesting old now these rest t n place → ((m : ℕ) → in_mutexes rest m ≡ false) → n < length now.outers
     → ((m : ℕ) → in_mutexes w m ≡ (in_mutexes (get_or now.outers n (record { bits = 0 })) m || in_mutexes these m))
-    → HasNested old these t n place (record now { outers = set now.outers n w })
+    → HasEdge old these t n place (record now { outers = set now.outers n w })
 nesting_ends old now these rest w t n place s gone low all = record {
   held = s.held;
   standing = λ m k. set_word now.outers n w (λ m b. b || in_mutexes these m) low all k m ∙ ap (λ (o : List MutexSet). cond (eqb n k) (words o k m || in_mutexes these m) (words o k m)) s.outers;
@@ -136,7 +136,7 @@ nesting_ends old now these rest w t n place s gone low all = record {
 }
 
 -- nothing is new
-pub none_nested : (old : Nestings) (these : MutexSet) (t n place : ℕ) → ((m : ℕ) → in_mutexes these m ≡ false) → HasNested old these t n place old
+pub none_nested : (old : LockGraph) (these : MutexSet) (t n place : ℕ) → ((m : ℕ) → in_mutexes these m ≡ false) → HasEdge old these t n place old
 none_nested old these t n place gone = record {
   held = refl;
   standing = λ m k. sym (ap (λ b. cond (eqb n k) (stands old m k || b) (stands old m k)) (gone m) ∙ same (eqb n k) (stands old m k));
@@ -160,7 +160,7 @@ none_new true false e = refl
 none_new false h e = absurd (false_true e)
 
 -- the mutexes held before have come to stand before the one that was got
-pub got_from : (old mid : Nestings) (these w : MutexSet) (t n place : ℕ) → HasNested old these t n place mid
+pub got_from : (old mid : LockGraph) (these w : MutexSet) (t n place : ℕ) → HasEdge old these t n place mid
     → ((m : ℕ) → in_mutexes these m ≡ (in_mutexes (get_or old.held t (record { bits = 0 })) m && not (in_mutexes (get_or old.outers n (record { bits = 0 })) m)))
     → t < length old.held → n < length old.outers
     → ((m : ℕ) → in_mutexes w m ≡ cond (eqb n m) true (in_mutexes (get_or old.held t (record { bits = 0 })) m))

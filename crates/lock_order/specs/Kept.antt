@@ -10,8 +10,8 @@ use Rattle.larch_actions.specs.declared.event.Layout.{Layout}
 use Rattle.larch_actions.specs.Actions.{Spec, IsRun, at_first}
 use Rattle.larch_actions.specs.State.{shown_at}
 use Rattle.lock_order.specs.declared.mutex_set.MutexSet.{MutexSet}
-use Rattle.lock_order.specs.declared.nestings.First.{First}
-use Rattle.lock_order.specs.declared.nestings.Nestings.{Nestings}
+use Rattle.lock_order.specs.declared.lock_graph.First.{First}
+use Rattle.lock_order.specs.declared.lock_graph.LockGraph.{LockGraph}
 use Rattle.lock_order.specs.Sets.{in_mutexes}
 use Rattle.lock_order.specs.Order.{got, Nests, HasCycle, TellsCycle}
 use Rattle.trace_check.specs.declared.checker.Verdict.{Verdict}
@@ -42,45 +42,45 @@ abbrev pub holds : Spec → ℕ → ℕ → Bool
 holds now t m = is_thread (now.holder m) t
 
 -- the thread t is kept as one that holds m
-abbrev pub has_held : Nestings → ℕ → ℕ → Bool
+abbrev pub has_held : LockGraph → ℕ → ℕ → Bool
 has_held k t m = shown_at in_mutexes (λ _. false) k.held t m
 
 -- it is kept that m stands before n
-abbrev pub stands : Nestings → ℕ → ℕ → Bool
+abbrev pub stands : LockGraph → ℕ → ℕ → Bool
 stands k m n = shown_at in_mutexes (λ _. false) k.outers n m
 
 -- the event that is kept for m before n: its thread, and its place
-abbrev pub first_thread : Nestings → ℕ → ℕ → ℕ
+abbrev pub first_thread : LockGraph → ℕ → ℕ → ℕ
 first_thread k m n = shown_at (λ (f : First). f.thread.0) 0 k.firsts (n * 64 + m)
 
-abbrev pub first_place : Nestings → ℕ → ℕ → ℕ
+abbrev pub first_place : LockGraph → ℕ → ℕ → ℕ
 first_place k m n = shown_at (λ (f : First). f.place) 0 k.firsts (n * 64 + m)
 
-abbrev pub Before : Nestings → ℕ → ℕ → Type 0
+abbrev pub Before : LockGraph → ℕ → ℕ → Type 0
 Before k m n = stands k m n ≡ true
 
 -- What is kept is what the events so far, which lead to that state, nest.
-pub record IsKept (es : List Event) (now : Spec) (k : Nestings) : Type 0 where
+pub record IsKept (es : List Event) (now : Spec) (k : LockGraph) : Type 0 where
   pub version : Version
   pub run : IsRun version es now
   pub held : (t m : ℕ) → has_held k t m ≡ holds now t m
   pub held_low : (t m : ℕ) → has_held k t m ≡ true → m < 64
   pub low : (m n : ℕ) → Before k m n → m < 64
-  pub nested : (m n : ℕ) → Before k m n → Nests es m n (first_thread k m n) (first_place k m n)
+  pub edge : (m n : ℕ) → Before k m n → Nests es m n (first_thread k m n) (first_place k m n)
   pub least : (m n thread place : ℕ) → Nests es m n thread place → Before k m n × (first_place k m n ≤ place)
 
 -- the thread has got the mutex n, at that place
-pub record HasGot (old : Nestings) (t n place : ℕ) (new : Nestings) : Type 0 where
+pub record HasGot (old : LockGraph) (t n place : ℕ) (new : LockGraph) : Type 0 where
   pub held : (u m : ℕ) → has_held new u m ≡ cond (eqb t u) (cond (eqb n m) true (has_held old u m)) (has_held old u m)
   pub standing : (m k : ℕ) → stands new m k ≡ cond (eqb n k) (stands old m k || has_held old t m) (stands old m k)
-  -- what was kept stays, and the new ones are nested by that thread at that place
+  -- what was kept stays, and the new edges are by that thread at that place
   pub stays : (m k : ℕ) → m < 64 → Before old m k
       → (first_thread new m k ≡ first_thread old m k) × (first_place new m k ≡ first_place old m k)
   pub fresh : (m : ℕ) → stands old m n ≡ false → has_held old t m ≡ true
       → (first_thread new m n ≡ t) × (first_place new m n ≡ place)
 
 -- these mutexes have come to stand before n, by that thread at that place
-pub record HasNested (old : Nestings) (set : MutexSet) (t n place : ℕ) (new : Nestings) : Type 0 where
+pub record HasEdge (old : LockGraph) (set : MutexSet) (t n place : ℕ) (new : LockGraph) : Type 0 where
   pub held : new.held ≡ old.held
   pub standing : (m k : ℕ) → stands new m k ≡ cond (eqb n k) (stands old m k || in_mutexes set m) (stands old m k)
   pub stays : (m k : ℕ) → m < 64 → (n ≡ k → in_mutexes set m ≡ false)
@@ -88,7 +88,7 @@ pub record HasNested (old : Nestings) (set : MutexSet) (t n place : ℕ) (new : 
   pub fresh : (m : ℕ) → in_mutexes set m ≡ true → (first_thread new m n ≡ t) × (first_place new m n ≡ place)
 
 -- the thread has given the mutex n back
-pub record HasGiven (old : Nestings) (t n : ℕ) (new : Nestings) : Type 0 where
+pub record HasGiven (old : LockGraph) (t n : ℕ) (new : LockGraph) : Type 0 where
   pub held : (u m : ℕ) → has_held new u m ≡ cond (eqb t u) (cond (eqb n m) false (has_held old u m)) (has_held old u m)
   pub outers : new.outers ≡ old.outers
   pub firsts : new.firsts ≡ old.firsts
@@ -100,12 +100,12 @@ IsOrderOf es (Found cycle) = TellsCycle es cycle
 IsOrderOf es _ = ⊥
 
 -- of a legal trace it is kept what its events nest
-abbrev pub IsNoted : ℕ → Known (List ℕ) → Verdict → Nestings → Type 0
+abbrev pub IsNoted : ℕ → Known (List ℕ) → Verdict → LockGraph → Type 0
 IsNoted budget left (Legal s) k =
     (es : List Event) × (now : Spec) × IsKept es now k × (s.events ≡ length es) × IfSome left (λ bytes. IsLegalTrace budget bytes es)
 IsNoted budget left _ k = Unit {0}
 
 -- Where that is wanted, and nothing was kept at first, it is kept what these events of a trace with that layout nest.
-abbrev pub KeepsNested : Nestings → Layout → List Event → Bool → Nestings → Type 0
-KeepsNested first l es on k =
+abbrev pub KeepsEdges : LockGraph → Layout → List Event → Bool → LockGraph → Type 0
+KeepsEdges first l es on k =
     ((v : Version) → IsKept [] (at_first v) first) → on ≡ true → (s : Spec) → IsRun l.version es s → IsKept es s k

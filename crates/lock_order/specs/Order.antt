@@ -8,7 +8,7 @@ use Rattle.larch_actions.specs.declared.event.Action.{Action}
 use Rattle.larch_actions.specs.declared.event.Action.TheVariants.{Acquire, Resume, AlertReturn, AlertRaise}
 use Rattle.larch_actions.specs.Sets.{mem}
 use Rattle.larch_actions.specs.Actions.{Spec, IsRun}
-use Rattle.lock_order.specs.declared.answer.Nested.{Nested}
+use Rattle.lock_order.specs.declared.answer.Edge.{Edge}
 
 -- the mutex that the action gets
 abbrev pub got : Action → Option ℕ
@@ -67,18 +67,18 @@ abbrev pub HasCycle : List Event → Type 0
 HasCycle es = (ms : List ℕ) × IsCycle (StandsBefore es) ms
 
 -- the two mutexes nest at that place, by that thread, and at no place before it
-pub record IsFirst (es : List Event) (n : Nested) : Type 0 where
+pub record IsFirst (es : List Event) (n : Edge) : Type 0 where
   pub nests : Nests es n.outer.0 n.inner.0 n.thread.0 n.place
   pub least : (thread place : ℕ) → Nests es n.outer.0 n.inner.0 thread place → n.place ≤ place
 
 -- the outer mutexes, in order
-abbrev pub outers : List Nested → List ℕ
-outers ns = map (λ (n : Nested). n.outer.0) ns
+abbrev pub outers : List Edge → List ℕ
+outers ns = map (λ (n : Edge). n.outer.0) ns
 
--- The list tells a cycle: each with the first place of its two mutexes, its inner the outer of the next, and the least outer first.
-pub record TellsCycle (es : List Event) (ns : List Nested) : Type 0 where
+-- The list reports a cycle: each with the first place of its two mutexes, its inner the outer of the next, and the least outer first.
+pub record TellsCycle (es : List Event) (ns : List Edge) : Type 0 where
   pub two : 2 ≤ length ns
   pub distinct : AreDistinct (outers ns)
-  pub linked : Ring (λ (n k : Nested). n.inner.0 ≡ k.outer.0) ns
+  pub linked : Ring (λ (n k : Edge). n.inner.0 ≡ k.outer.0) ns
   pub firsts : AllByRecursion (IsFirst es) ns
   pub least : AllByRecursion (λ m. first_or 0 (outers ns) ≤ m) (outers ns)

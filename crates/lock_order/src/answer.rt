@@ -1,32 +1,32 @@
 //! What is answered on the lock order of a trace.
 ghost use Rattle.std.specs.Prelude.{◌≡◌, ◌≤◌, ◌<◌, List, [], ◌∷◌, ◌++◌, length, take, slice_index_or};
-ghost use Rattle.lock_order.specs.declared.answer.Nested.{Nested};
+ghost use Rattle.lock_order.specs.declared.answer.Edge.{Edge};
 
 use larch_actions::{Broken, MutexId, ThreadId};
 use std::marker::Model;
 
 /// The thread got the inner mutex while it held the outer one, in the event at the place.
 #[derive(Clone, Copy, Debug, PartialEq, Eq)]
-pub struct Nested {
+pub struct Edge {
     pub outer: MutexId,
     pub inner: MutexId,
     pub thread: ThreadId,
     pub place: u64,
 }
 
-/// A cycle: 2 to 64 nestings, the inner mutex of each the outer one of the next, and of the last that of the first.
+/// A cycle: 2 to 64 edges, the inner mutex of each the outer one of the next, and of the last that of the first.
 #[derive(Drop)]
 pub struct Cycle {
-    nested: [Nested; 64],
+    edges: [Edge; 64],
     len: usize,
 }
 
 impl Model for Cycle {
-    ghost Value = { List Nested };
+    ghost Value = { List Edge };
 
-    ghost view = { λ c. take c.len c.nested };
+    ghost view = { λ c. take c.len c.edges };
 
-    ghost invariant = { λ c. (c.len ≤ 64) × (length c.nested ≡ 64) };
+    ghost invariant = { λ c. (c.len ≤ 64) × (length c.edges ≡ 64) };
 }
 
 impl Cycle {
@@ -34,24 +34,24 @@ impl Cycle {
     pub(crate) fn none() -> Cycle
         ensures { result ≡ [] }
     {
-        let nobody = Nested {
+        let nobody = Edge {
             outer: MutexId(0),
             inner: MutexId(0),
             thread: ThreadId(0),
             place: 0,
         };
         Cycle {
-            nested: [nobody; 64],
+            edges: [nobody; 64],
             len: 0,
         }
     }
 
     // One more, at the end.
-    pub(crate) fn push(&mut self, nested: Nested)
+    pub(crate) fn push(&mut self, edge: Edge)
         requires { length self.old < 64 }
-        ensures { self.new ≡ self.old ++ nested ∷ [] }
+        ensures { self.new ≡ self.old ++ edge ∷ [] }
     {
-        self.nested[self.len] = nested;
+        self.edges[self.len] = edge;
         self.len += 1;
     }
 
@@ -64,12 +64,12 @@ impl Cycle {
     }
 
     /// The one at this place, counted from 0.
-    pub fn at(&self, k: usize) -> Nested
+    pub fn at(&self, k: usize) -> Edge
         requires { k < length self.now }
         ensures { result ≡ slice_index_or self.now k result }
     {
-        let nested = &self.nested;
-        nested[k]
+        let edges = &self.edges;
+        edges[k]
     }
 }
 

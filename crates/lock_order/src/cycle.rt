@@ -1,4 +1,4 @@
-//! The cycle that is told.
+//! The cycle that is reported.
 ghost use Rattle.std.specs.Prelude.{◌≡◌, ◌<◌, ◌≤◌, ℕ, List, true, false, length, nat_lt, slice_index, MatchOption};
 ghost use Rattle.std.specs.List.{IsFirstBest};
 ghost use Rattle.larch_actions.specs.Sets.{mem};
@@ -9,29 +9,29 @@ ghost use Rattle.lock_order.specs.Kept.{IsKept};
 ghost use Rattle.lock_order.specs.Circles.{AreLow, IsCircle, IsLeast, links};
 
 use crate::answer::Cycle;
-use crate::knot::{circle, knot};
-use crate::nestings::Nestings;
+use crate::cyclic_core::{circle, cyclic_core};
+use crate::lock_graph::LockGraph;
 use arrayvec::ArrayVec;
 use larch_actions::MutexId;
 
-/// A cycle of the nestings, if they have one.
-pub fn cycle_in(nestings: &Nestings) -> Option<Cycle>
-    requires { AreLow nestings.now }
-    ensures { (es : List Event) (now : Spec) → IsKept es now nestings.now → MatchOption result (¬ HasCycle es) (TellsCycle es) }
+/// A cycle of the graph, if it has one.
+pub fn cycle_in(graph: &LockGraph) -> Option<Cycle>
+    requires { AreLow graph.now }
+    ensures { (es : List Event) (now : Spec) → IsKept es now graph.now → MatchOption result (¬ HasCycle es) (TellsCycle es) }
 {
-    let knot = knot(nestings);
-    if knot.is_empty() {
+    let core = cyclic_core(graph);
+    if core.is_empty() {
         return None;
     }
-    let mut circle = circle(nestings, knot);
-    turn(nestings, &mut circle);
-    Some(cycle_of(nestings, circle.as_slice()))
+    let mut circle = circle(graph, core);
+    turn(graph, &mut circle);
+    Some(cycle_of(graph, circle.as_slice()))
 }
 
 // Turns the circle until its least mutex is the first.
-fn turn(nestings: &Nestings, circle: &mut ArrayVec<u32, 64>)
-    requires { IsCircle nestings.now circle.old.items }
-    ensures circle { IsCircle nestings.now circle.new.items }
+fn turn(graph: &LockGraph, circle: &mut ArrayVec<u32, 64>)
+    requires { IsCircle graph.now circle.old.items }
+    ensures circle { IsCircle graph.now circle.new.items }
     ensures least { IsLeast (first_or 0 circle.new.items) circle.new.items }
 {
     let turns = place_of_least(circle.as_slice());
@@ -54,12 +54,12 @@ fn place_of_least(list: &[u32]) -> usize
     best
 }
 
-// The first nestings of each mutex of the circle and the next.
-fn cycle_of(nestings: &Nestings, circle: &[u32]) -> Cycle
+// The first edge of each mutex of the circle and the next.
+fn cycle_of(graph: &LockGraph, circle: &[u32]) -> Cycle
     requires some { 0 < length circle.now }
     requires few { length circle.now ≤ 64 }
     requires low { (m : ℕ) → mem m circle.now ≡ true → m < 64 }
-    ensures { result ≡ links nestings.now circle.now (first_or 0 circle.now) }
+    ensures { result ≡ links graph.now circle.now (first_or 0 circle.now) }
 {
     let mut cycle = Cycle::none();
     for (k, outer) in circle.iter().enumerate() {
@@ -68,7 +68,7 @@ fn cycle_of(nestings: &Nestings, circle: &[u32]) -> Cycle
         } else {
             circle[0]
         };
-        cycle.push(nestings.first(MutexId(*outer), MutexId(inner)));
+        cycle.push(graph.first(MutexId(*outer), MutexId(inner)));
     }
     cycle
 }

@@ -4,12 +4,12 @@ ghost use Rattle.larch_actions.specs.declared.event.Event.{Event};
 ghost use Rattle.larch_actions.specs.Actions.{Spec};
 ghost use Rattle.trace_check.specs.Verdicts.{IsJust};
 ghost use Rattle.lock_order.specs.Answers.{IsJustAnswer, Agree};
-ghost use Rattle.lock_order.specs.Kept.{IsKept, IsOrderOf, KeepsNested};
+ghost use Rattle.lock_order.specs.Kept.{IsKept, IsOrderOf, KeepsEdges};
 ghost use Rattle.lock_order.specs.Circles.{AreLow};
 
 use crate::answer::OrderAnswer;
 use crate::cycle::cycle_in;
-use crate::nestings::Nestings;
+use crate::lock_graph::LockGraph;
 use firefly_outside::Source;
 use larch_actions::{Event, Layout};
 use trace_check::{Verdict, Watch, check_with};
@@ -17,14 +17,14 @@ use trace_check::{Verdict, Watch, check_with};
 // Notes what a legal trace nests, where that is wanted.
 #[derive(Drop)]
 struct Noting {
-    nestings: Nestings,
+    graph: LockGraph,
     on: bool,
 }
 
 impl Watch for Noting {
     type Stop = ();
 
-    ghost keeps = { λ first l es now. (now.on ≡ first.on) × KeepsNested first.nestings l es now.on now.nestings };
+    ghost keeps = { λ first l es now. (now.on ≡ first.on) × KeepsEdges first.graph l es now.on now.graph };
 
     ghost stops = { λ first l es now stop. ⊥ };
 
@@ -36,13 +36,13 @@ impl Watch for Noting {
     #[inline(always)]
     fn see(&mut self, place: u64, e: &Event) -> Result<(), ()> {
         if self.on {
-            self.nestings.note(e, place);
+            self.graph.note(e, place);
         }
         Ok(())
     }
 }
 
-/// Reads at most `budget` bytes of the input, and tells a cycle of the order in which the threads of its trace got mutexes within one
+/// Reads at most `budget` bytes of the input, and reports a cycle of the order in which the threads of its trace got mutexes within one
 /// another, if there is one. From the byte that decides on it reads nothing more.
 pub fn lock_order<I: Source>(input: &mut I, budget: u64) -> OrderAnswer
     requires { budget < 2 ^ 64 - 1 }
@@ -51,7 +51,7 @@ pub fn lock_order<I: Source>(input: &mut I, budget: u64) -> OrderAnswer
     ensures exact { (bytes : List ℕ) (answer : OrderAnswer) → I.left input.old ≡ Some bytes → result ≢ OrderAnswer.ReadFault
         → answer ≢ OrderAnswer.ReadFault
         → IsJustAnswer budget (I.left input.old) (I.left input.new) (I.faults input.old) (I.faults input.new) answer → Agree result answer }
-    // A read that fails is told, and can fail only where no answer is due yet. So from the byte that decides on nothing is asked.
+    // A failed read is reported, and a read can fail only where no answer is due yet. So nothing is asked once a byte decides.
     ensures told { result ≢ OrderAnswer.ReadFault → I.faults input.new ≡ I.faults input.old }
     ensures later { I.faults input.old ≤ I.faults input.new }
 {
@@ -66,7 +66,7 @@ fn order_all<I: Source>(input: &mut I, budget: u64) -> OrderAnswer
     ensures later { I.faults input.old ≤ I.faults input.new }
 {
     let mut noting = Noting {
-        nestings: Nestings::new(),
+        graph: LockGraph::new(),
         on: true,
     };
     let verdict = match check_with(input, budget, &mut noting) {
@@ -74,7 +74,7 @@ fn order_all<I: Source>(input: &mut I, budget: u64) -> OrderAnswer
         Err(()) => unreachable!(),
     };
     match verdict {
-        Verdict::Legal(summary) => order_of(&noting.nestings, summary.events),
+        Verdict::Legal(summary) => order_of(&noting.graph, summary.events),
         Verdict::Illegal { place, why } => OrderAnswer::Illegal { place, why },
         Verdict::BadLine(line) => OrderAnswer::BadLine(line),
         Verdict::TooLong => OrderAnswer::TooLong,
@@ -82,7 +82,7 @@ fn order_all<I: Source>(input: &mut I, budget: u64) -> OrderAnswer
     }
 }
 
-/// The verdict on at most `budget` bytes of the input, as `trace_check::check` gives it. A program that tells lock orders too calls this
+/// The verdict on at most `budget` bytes of the input, as `trace_check::check` gives it. A program that also reports lock orders calls this
 /// one: then it has one loop over events and not two, and the compiler makes an event of one loop faster.
 pub fn check<I: Source>(input: &mut I, budget: u64) -> Verdict
     requires { budget < 2 ^ 64 - 1 }
@@ -91,12 +91,12 @@ pub fn check<I: Source>(input: &mut I, budget: u64) -> Verdict
     ensures exact { (bytes : List ℕ) (verdict : Verdict) → I.left input.old ≡ Some bytes → result ≢ Verdict.ReadFault
         → verdict ≢ Verdict.ReadFault
         → IsJust budget (I.left input.old) (I.left input.new) (I.faults input.old) (I.faults input.new) verdict → result ≡ verdict }
-    // A read that fails is told, and can fail only where no verdict is due yet. So from the byte that decides on nothing is asked.
+    // A failed read is reported, and a read can fail only where no verdict is due yet. So nothing is asked once a byte decides.
     ensures told { result ≢ Verdict.ReadFault → I.faults input.new ≡ I.faults input.old }
     ensures later { I.faults input.old ≤ I.faults input.new }
 {
     let mut noting = Noting {
-        nestings: Nestings::new(),
+        graph: LockGraph::new(),
         on: false,
     };
     match check_with(input, budget, &mut noting) {
@@ -106,11 +106,11 @@ pub fn check<I: Source>(input: &mut I, budget: u64) -> Verdict
 }
 
 // The answer on a legal trace.
-fn order_of(nestings: &Nestings, events: u64) -> OrderAnswer
-    requires { AreLow nestings.now }
-    ensures { (es : List Event) (now : Spec) → events ≡ length es → IsKept es now nestings.now → IsOrderOf es result }
+fn order_of(graph: &LockGraph, events: u64) -> OrderAnswer
+    requires { AreLow graph.now }
+    ensures { (es : List Event) (now : Spec) → events ≡ length es → IsKept es now graph.now → IsOrderOf es result }
 {
-    match cycle_in(nestings) {
+    match cycle_in(graph) {
         Some(cycle) => OrderAnswer::Found(cycle),
         None => OrderAnswer::NoCycle(events),
     }

@@ -6,7 +6,7 @@ ghost use Rattle.nub_rule.specs.Known.{StandsAs};
 ghost use Rattle.nub_rule.specs.Parts.{HasTested, staged};
 ghost use Rattle.nub.specs.Hearing.{HearsAlerts};
 
-use super::patience::{Look, is_patient, learn};
+use super::spinning::{Look, learn, may_spin};
 use crossbeam_utils::Backoff;
 use nub_rule::{Package, Thread, Uses, clear_ready, park, read_alert, read_ready};
 use std::sync::Wait;
@@ -36,11 +36,7 @@ pub fn sleep<U: Uses, R: Wait>(rt: &R, p: &Package<U>, me: &mut Thread<U>, alert
     ensures at_cond { result ≡ true → (s : Stand) → me.old.stand ≡ Some s → 128 ≤ s.at → me.new ≡ record me.old { stand = None } }
     ensures alerted { result ≡ false → me.new ≡ record me.old { alerted = true; stand = staged Alerted me.old.stand } }
 {
-    let looks = if is_patient(me, Look::Ready) {
-        LOOKS
-    } else {
-        0
-    };
+    let looks = if may_spin(me, Look::Ready) { LOOKS } else { 0 };
     let mut left = looks;
     let mut parked = false;
     let backoff = Backoff::new();

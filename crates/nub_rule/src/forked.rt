@@ -9,12 +9,12 @@ ghost use Rattle.nub_rule.specs.Forks.{AreAll, MayComeBack, in_order, with_numbe
 ghost use Rattle.nub_rule.specs.Items.{Each};
 ghost use Rattle.nub_rule.specs.Known.{Known, part_of};
 
-use crate::fates::{Ended, Unborn};
+use crate::closing::{Gathered, Remains, collector, gather, values_of};
 use crate::package::{Package, Stored, Thread};
 use crate::rule::{About, Kept, Slot};
+use crate::thread_states::{Ended, Unborn};
 use crate::uses::Uses;
 use crate::view::View;
-use crate::whole::{Gathered, Remains, collector, gather, values_of};
 use atomic_table::Shared;
 use std::alloc::Global;
 

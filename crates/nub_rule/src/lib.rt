@@ -9,55 +9,48 @@
 //! and no call here takes more than one step.
 #![tactic(auto)]
 
-mod alert;
-mod begetting;
-mod begun;
-mod cell;
-mod cond;
-mod fates;
+mod closing;
 mod forked;
-mod hand;
 pub mod laws;
-mod life;
-mod mutex;
 mod object;
+mod opening;
 mod package;
-mod pen;
 mod places;
 mod plays;
-mod queue;
 mod queueing;
-mod ready;
 mod rule;
-mod sem;
 mod slot;
-mod spin;
+mod slots_at_hand;
 mod stepping;
+mod steps;
+mod thread_states;
 mod uses;
+mod value_slot;
 mod view;
-mod waking;
-mod whole;
 
-pub use alert::{
+pub use closing::{Remains, close_package};
+pub use forked::close_forked;
+pub use object::{Object, Why};
+pub use opening::open_package;
+pub use package::{Entry, Package, Stored, Thread};
+pub use steps::alert::{
     leave_sem_queue, or_alert, read_alert, swap_alert, swap_alert_in_p, swap_alert_in_raise,
 };
-pub use begetting::{Body, hand_out, park_for_end, take_right};
-pub use begun::{lower_waits, raise_waits, read_waits_broadcast, read_waits_signal};
-pub use cond::{
+pub use steps::cond::{
     advance_broadcast, advance_signal, compare_count, know_count, leave_cond_queue, load_count,
     load_count_alertable,
 };
-pub use fates::{Ended, Unborn};
-pub use forked::close_forked;
-pub use life::{end_life, fork_life, read_life};
-pub use mutex::{clear_bit, clear_bit_in_wait, put_value, take_bit_quiet, take_value, try_bit};
-pub use object::{Object, Why};
-pub use package::{Entry, Package, Stored, Thread};
-pub use pen::{give_pen, next_number, read_number, store_event, take_pen, write_number};
-pub use queue::{peek_bit, pop_queue, push_queue, read_length, take_out, test_again};
-pub use ready::{clear_ready, park, read_ready, set_ready};
-pub use sem::{clear_sem, try_p};
-pub use spin::{give_spin, take_spin};
+pub use steps::forking::{Body, hand_out, park_for_end, take_right};
+pub use steps::life::{end_life, fork_life, read_life};
+pub use steps::mutex::{
+    clear_bit, clear_bit_in_wait, put_value, take_bit_quiet, take_value, try_bit,
+};
+pub use steps::pen::{give_pen, next_number, read_number, store_event, take_pen, write_number};
+pub use steps::queue::{peek_bit, pop_queue, push_queue, read_length, take_out, test_again};
+pub use steps::ready::{clear_ready, park, read_ready, set_ready};
+pub use steps::sem::{clear_sem, try_p};
+pub use steps::spin::{give_spin, take_spin};
+pub use steps::waiters::{lower_waits, raise_waits, read_waits_broadcast, read_waits_signal};
+pub use steps::waking::{note_mutex, note_woken, owes_unparking, unpark, unpark_all, unpark_noted};
+pub use thread_states::{Ended, Unborn};
 pub use uses::{Change, NoChange, Uses};
-pub use waking::{note_mutex, note_woken, owes_unparking, unpark, unpark_all, unpark_noted};
-pub use whole::{Remains, close_package, open_package};

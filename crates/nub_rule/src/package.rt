@@ -1,12 +1,12 @@
 //! A package and its threads.
 ghost use Rattle.std.specs.Prelude.{◌≡◌};
 
-use crate::hand::Hand;
 use crate::places::{MUTEXES, VALUES};
 use crate::rule::{About, Kept, Queue, Slot};
+use crate::slots_at_hand::Hand;
+use crate::steps::waking::Waker;
 use crate::uses::Uses;
 use crate::view::View;
-use crate::waking::Waker;
 use atomic_table::{Seat, Table};
 use crossbeam_utils::sync::Parker;
 use larch_actions::{Event, Layout, MutexId};
@@ -72,7 +72,7 @@ pub struct Thread<U: Uses> {
     /// The threads that are to be unparked when this one releases a mutex.
     pub(crate) later: Queue,
     /// A number that the Nub keeps: how often of late looking before a sleep was in time.
-    pub(crate) patience: u64,
+    pub(crate) spin_tallies: u64,
     /// With the first thread: room for the values of all mutexes.
     pub(crate) room: Vec<U::Value>,
 }
@@ -119,16 +119,16 @@ impl<U: Uses> Thread<U> {
 
     /// Returns a number that the Nub keeps with the thread, 0 at first. No clause speaks of it.
     #[inline]
-    pub fn patience(&self) -> u64 {
-        self.patience
+    pub fn spin_tallies(&self) -> u64 {
+        self.spin_tallies
     }
 
     /// Sets the number that the Nub keeps with the thread.
     #[inline]
-    pub fn set_patience(&mut self, patience: u64)
+    pub fn set_spin_tallies(&mut self, spin_tallies: u64)
         ensures { self.new ≡ self.old }
     {
-        self.patience = patience;
+        self.spin_tallies = spin_tallies;
     }
 
     /// Allocates room for `further` more events, so that storing them needs no memory. Fails only

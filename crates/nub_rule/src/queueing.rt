@@ -7,11 +7,11 @@ ghost use Rattle.nub_rule.specs.Plays.{behind, less};
 ghost use Rattle.nub_rule.specs.Queued.{MayRequeue, Requeued};
 ghost use Rattle.nub_rule.specs.Rule.{IsKept};
 
-use crate::hand::bring;
 use crate::object::Object;
 use crate::package::{Package, Thread};
 use crate::rule::Slot;
 use crate::slot::{leave_slot, pop_slot, push_slot};
+use crate::slots_at_hand::bring;
 use crate::stepping::{slot_mut, store};
 use crate::uses::Uses;
 use crate::view::View;

@@ -33,7 +33,7 @@ abbrev pub WriteFails : Change → Change → Change → Status → Type 0
 WriteFails input out notes status =
     (status ≡ SinkFault) × Rose out.before out.now × IsCutShort budget input.old out.old out.new × Notes notes output_fault_message
 
--- A failed read is told, unless the output failed too. One can fail only where no verdict is due yet, so from the byte that decides on
+-- A failed read is reported, unless the output failed too. One can fail only where no verdict is due yet, so from the byte that decides on
 -- nothing is read.
 abbrev pub TellsFault : Change → Status → Type 0
 TellsFault input status = status ≢ ReadFault → status ≢ SinkFault → input.now ≡ input.before

@@ -33,7 +33,7 @@ IsPair words more k n = (words ≡ codes "--from" ∷ decimal k ∷ []) × (more
 abbrev pub with_order : View → View
 with_order v = record { first = v.first; end = v.end; ordered = true }
 
--- the words are `--order` and words behind it that ask for a part
+-- the words are `--order` and words after it that ask for a part
 abbrev pub AsksOrdered : List (List ℕ) → View → Type 0
 AsksOrdered [] v = ⊥
 AsksOrdered (word ∷ rest) v = (u : View) × (word ≡ codes "--order") × AsksFor rest u × (v ≡ with_order u)

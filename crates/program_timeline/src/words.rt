@@ -36,7 +36,7 @@ fn view_between(from: Option<u64>, to: Option<u64>) -> View
     }
 }
 
-// The number behind this name.
+// The number that follows this name.
 fn read_bound(name: &str, wanted: &str, number: &str) -> Option<u64>
     ensures found { IfSome result (λ n. (name.now ≡ wanted.now) × (number.now ≡ decimal n) × (n < 2 ^ 64)) }
     ensures none { IfNone result ((n : ℕ) → name.now ≡ wanted.now → number.now ≡ decimal n → n < 2 ^ 64 → ⊥) }
@@ -109,7 +109,7 @@ fn read_view(said: &[String]) -> Option<View>
     }
 }
 
-// The part that the words ask for behind the word for the lock order.
+// The part that the words ask for after the word for the lock order.
 fn read_ordered(word: &str, rest: &[String]) -> Option<View>
     ensures found { IfSome result (AsksOrdered (word.now ∷ map string_bytes rest.now)) }
     ensures none { IfNone result ((v : View) → AsksOrdered (word.now ∷ map string_bytes rest.now) v → ⊥) }

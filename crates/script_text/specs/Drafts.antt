@@ -33,7 +33,7 @@ pub record Takes (old new : Draft) (x : Line) : Type 0 where
   pub lines : new.lines.items ≡ old.lines.items ++ x ∷ []
   pub draft : IsDraft new
 
--- no line that may come next, behind these lines, has this text
+-- no line that may come next, after these lines, has this text
 abbrev pub NoneIs : Layout → List Line → List ℕ → Type 0
 NoneIs l xs bytes = (x : Line) → MayCome l (held_after none_held xs) (forked_after none_forked xs) x → bytes ≡ line_text x → ⊥
 
@@ -72,7 +72,7 @@ IsStart line start.Second = line ≡ second_version
 abbrev pub FirstFault : Option (List ℕ) → Option (List ℕ) → ℕ → ℕ → ScriptFault → Type 0
 FirstFault = HeadFault 1 NoFirstIs
 
--- why there was no layout line behind the first line of version two
+-- why there was no layout line after the first line of version two
 abbrev pub SecondFault : Option (List ℕ) → Option (List ℕ) → ℕ → ℕ → ScriptFault → Type 0
 SecondFault = HeadFault 2 (NoLayoutIs Two)
 
@@ -82,7 +82,7 @@ HeadReason rest left' before now fault =
     FirstFault rest left' before now fault
     ⊎ ((left : Option (List ℕ)) × Consumes rest left (first_line Two) × SecondFault left left' before now fault)
 
--- why there was no further line behind these, and no end
+-- why there was no further line after these, and no end
 abbrev pub LineFault : Layout → List Line → Option (List ℕ) → Option (List ℕ) → ℕ → ℕ → ScriptFault → Type 0
 LineFault l xs rest left' before now Memory = Unit {0}
 LineFault l xs rest left' before now (BadLine k) =

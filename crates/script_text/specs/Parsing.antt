@@ -24,7 +24,7 @@ pub record AreParted (bytes prefix behind : List ℕ) : Type 0 where
   pub from_space : IsBehind behind
   pub text : bytes ≡ prefix ++ behind
 
--- these numbers stand behind a word, and no others
+-- these numbers stand after a word, and no others
 abbrev pub Are : Layout → List Operand → List ℕ → List ℕ → Type 0
 Are l ks bytes ns = AreWithin l ks ns × (bytes ≡ operands_text ks ns)
 

@@ -64,7 +64,7 @@ AreRows t (x ∷ xs) es = (a b : List Event) × IsRow t x.operation a × AreRows
 abbrev pub AreCallsOf : List Line → ℕ → List Event → Type 0
 AreCallsOf xs t es = AreRows t (lines_of t xs) es
 
--- behind them End, where the thread is one that was there; else there is nothing
+-- after them End, where the thread is one that was there; else there is nothing
 abbrev pub AreCallsAndEnd : Bool → List Line → ℕ → List Event → Type 0
 AreCallsAndEnd true xs t es = (calls : List Event) × AreCallsOf xs t calls × (es ≡ calls ++ event t action.End ∷ [])
 AreCallsAndEnd false xs t es = es ≡ []

@@ -1,4 +1,4 @@
--- The table of operations: for each its word, what stands behind the word, and what it does with a mutex or a thread.
+-- The table of operations: for each its word, what stands after the word, and what it does with a mutex or a thread.
 use Rattle.std.specs.Prelude.{ℕ, ◌^◌, ◌<◌, ◌≤◌, List, [], ◌∷◌, ◌++◌, codes, decimal, slice_index}
 use Rattle.larch_actions.specs.declared.event.Layout.{Layout}
 use Rattle.script_text.specs.declared.line.Operation.{Operation}
@@ -34,7 +34,7 @@ word_text word.AlertUntil = codes "alert-until"
 word_text word.Fork = codes "fork"
 word_text word.Join = codes "join"
 
--- what stands behind it
+-- what stands after it
 abbrev pub kinds_of : Word → List Operand
 kinds_of word.Acquire = Name Mutex ∷ []
 kinds_of word.Release = Name Mutex ∷ []
@@ -72,7 +72,7 @@ made word.AlertUntil ns = AlertUntil (record { 0 = slice_index ns 0 }) (record {
 made word.Fork ns = Fork (record { 0 = slice_index ns 0 })
 made word.Join ns = Join (record { 0 = slice_index ns 0 })
 
--- the word of an operation, and the numbers behind it
+-- the word of an operation, and the numbers after it
 abbrev pub word_of : Operation → Word
 word_of (Acquire m) = word.Acquire
 word_of (Release m) = word.Release
@@ -155,7 +155,7 @@ AreWithin l (k ∷ ks) (n ∷ ns) = IsWithin l k n × AreWithin l ks ns
 abbrev pub operand_text : Operand → ℕ → List ℕ
 operand_text k n = prefix_text k ++ decimal n
 
--- each behind a space
+-- each after a space
 abbrev pub operands_text : List Operand → List ℕ → List ℕ
 operands_text [] ns = []
 operands_text (k ∷ ks) [] = []

@@ -9,7 +9,7 @@ use Rattle.script_text.specs.declared.line.Line.{Line}
 use Rattle.script_text.specs.Operations.{MayFollow, none_held, none_forked, held_after, AllFree}
 use Rattle.script_text.specs.Table.{word_text, kinds_of, word_of, numbers_of, operands_text}
 
--- the word, and what stands behind it
+-- the word, and what stands after it
 abbrev pub operation_text : Operation → List ℕ
 operation_text o = word_text (word_of o) ++ operands_text (kinds_of (word_of o)) (numbers_of o)
 

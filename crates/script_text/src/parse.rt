@@ -76,7 +76,7 @@ fn parted(bytes: &[u8]) -> (&[u8], &[u8])
     (&bytes[..at], &bytes[at..])
 }
 
-// What stands behind a word: a name or a number.
+// What stands after a word: a name or a number.
 fn operand(bytes: &[u8], what: Operand, layout: &Layout) -> Option<u64>
     ensures { Parses (IsWithin layout.now what) (operand_text what) bytes.now result }
 {
@@ -90,7 +90,7 @@ fn operand(bytes: &[u8], what: Operand, layout: &Layout) -> Option<u64>
     }
 }
 
-// All that stands behind a word, each behind a space.
+// All that stands after a word, each after a space.
 fn operands(bytes: &[u8], kinds: &[Operand], layout: &Layout) -> Option<Numbers>
     requires lawful { IsLawful layout.now }
     requires few { length kinds.now ≤ 3 }
@@ -156,7 +156,7 @@ pub fn line(bytes: &[u8], layout: &Layout) -> Option<Line>
     Some(Line { thread, operation })
 }
 
-// A number of at most `most` between the word and a space, and the bytes behind the space.
+// A number of at most `most` between the word and a space, and the bytes after the space.
 fn field<'b>(bytes: &'b [u8], word: &[u8], most: u32) -> Option<(u32, &'b [u8])>
     ensures { MatchOption result ((n : ℕ) (y : List ℕ) → n ≤ most → bytes.now ≡ word.now ++ (decimal n ++ 32 ∷ y)
         → ⊥) (λ x. IsField most bytes.now word.now x.0 x.1.now) }

@@ -105,7 +105,7 @@ fn head<I: Source>(window: &mut Window, input: &mut I) -> Result<Layout, ScriptF
     }
 }
 
-// The end of the input, behind these lines.
+// The end of the input, after these lines.
 fn end(draft: &Draft) -> Result<(), ScriptFault>
     requires draft { IsDraft draft.now }
     requires few { head_lines draft.now.layout.version + length draft.now.lines.items ≤ 100000 }
@@ -175,7 +175,7 @@ fn one<I: Source>(
     }
 }
 
-// Takes the end of the input behind the last line that there may be.
+// Takes the end of the input after the last line that there may be.
 fn full<I: Source>(window: &mut Window, input: &mut I, draft: &Draft) -> Result<(), ScriptFault>
     requires draft { IsDraft draft.now }
     requires full { head_lines draft.now.layout.version + length draft.now.lines.items ≡ 100000 }
@@ -194,7 +194,7 @@ fn full<I: Source>(window: &mut Window, input: &mut I, draft: &Draft) -> Result<
     }
 }
 
-// Takes all lines behind the layout line, and the end of the input.
+// Takes all lines after the layout line, and the end of the input.
 fn lines<I: Source>(
     window: &mut Window,
     input: &mut I,

@@ -1,4 +1,4 @@
-//! The table of operations: for each its word, what stands behind the word, and what it does with a mutex or a thread.
+//! The table of operations: for each its word, what stands after the word, and what it does with a mutex or a thread.
 //!
 //! A further operation is a row in each function here and in specs/Table.antt. Texts and their reading follow from the rows.
 ghost use Rattle.std.specs.Prelude.{◌≡◌, ◌<◌, ◌^◌, ◌↔◌, IsTrue};
@@ -29,7 +29,7 @@ pub enum Word {
     Join,
 }
 
-/// What may stand behind a word.
+/// What may stand after a word.
 #[derive(Clone, Copy)]
 pub enum Operand {
     /// A name.
@@ -40,7 +40,7 @@ pub enum Operand {
     Count,
 }
 
-/// The numbers behind a word, in order. Where fewer stand there, the others are 0.
+/// The numbers after a word, in order. If there are fewer, the others are 0.
 #[derive(Clone, Copy)]
 pub struct Numbers {
     pub first: u64,
@@ -120,7 +120,7 @@ pub fn known_word(bytes: &[u8]) -> Option<Word>
     }
 }
 
-/// What stands behind the word.
+/// What stands after the word.
 pub fn kinds(word: Word) -> &'static [Operand]
     ensures { result.now ≡ kinds_of word }
 {
@@ -152,7 +152,7 @@ pub fn kinds(word: Word) -> &'static [Operand]
     }
 }
 
-/// The operation with this word, and these numbers behind it.
+/// The operation with this word, and these numbers after it.
 pub fn make(word: Word, numbers: Numbers) -> Operation
     requires small { AreSmall (kinds_of word) (listed numbers) }
     ensures { result ≡ made word (listed numbers) }

@@ -1,4 +1,4 @@
-//! A trace with each budget that is less than its length, and with a read that fails behind each of its bytes.
+//! A trace with each budget that is less than its length, and with a read that fails after each of its bytes.
 use crate::same::same;
 use crate::verdicts::verdict_on;
 use std::process::Abort;

@@ -27,7 +27,7 @@ fn head() -> &'static [u8] {
     b"firefly-trace 2\nthreads 256 mutexes 1 conditions 1 semaphores 0\n"
 }
 
-// Lines behind that head, each with the verdict.
+// Lines after that head, each with its verdict.
 fn lives() -> [(&'static [u8], Verdict); 8] {
     [
         (

@@ -89,7 +89,7 @@ fn each_kind_of_line_is_read(rt: HostRuntime) -> Result<(), Fail> {
     Ok(())
 }
 
-// Lines that are bad behind the head, each with its fault.
+// Lines that are bad after the head, each with its fault.
 fn bad_lines() -> [(&'static [u8], TextFault); 12] {
     [
         (b"00 t0 acquire m0\nend 1\n", TextFault::BadLine(3)),

@@ -7,8 +7,8 @@ use std::process::Abort;
 use std::test::Fail;
 use trace_check::{Summary, Verdict};
 
-// What the checker answers to these bytes behind the head, how often it asks for one, and how many there are with the head. Where it is
-// `cut`, more bytes come behind them, and the source fails before it gives these.
+// What the checker answers to these bytes after the head, how often it asks for one, and how many there are with the head. Where it is
+// `cut`, more bytes come after them, and the source fails before it gives these.
 fn asking(
     alloc: Global,
     bytes: &[u8],
@@ -26,7 +26,7 @@ fn asking(
     Ok((verdict, asked, many))
 }
 
-// The last of these bytes behind the head decides: the source is asked for it, and fails if it is asked again.
+// The last of these bytes after the head decides: the source is asked for it, and fails if it is asked again.
 fn decided_by(
     rt: &impl Abort,
     alloc: Global,

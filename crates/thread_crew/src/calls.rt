@@ -39,7 +39,7 @@ fn jobs_of<F, T: Drop>(calls: Vec<Call<'_, F, T>>, mut jobs: Vec<T>) -> Vec<T>
 
 /// Hands each job to `f`, in a thread of its own where it is below `starts` and a thread can be made, and else here once the others were
 /// started. Before that `between` is called here with what it is to work on, and told how many jobs weren't started: at least as many as
-/// are behind the first `starts`, and at most all.
+/// are after the first `starts`, and at most all.
 ///
 /// It blocks until each job has ended, for ever where one never does. On `Err` there was no memory: nothing has run, and all comes back.
 pub fn run_crew<

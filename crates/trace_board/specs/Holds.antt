@@ -9,7 +9,7 @@ use Rattle.trace_board.specs.declared.history.Effect.TheVariants.{Begins, Ends, 
 use Rattle.trace_board.specs.declared.holds.Hold.{Hold}
 use Rattle.trace_board.specs.declared.holds.Longest.{Longest}
 
--- by how many events the last event of a hold is behind its first
+-- by how many events the last event of a hold is after its first
 abbrev pub held_for : Hold → ℕ
 held_for h = h.last - h.since.place
 

@@ -1,4 +1,4 @@
--- What is kept tells of the events and of the state: what a bar, an arrow and a longest hold say.
+-- What is kept says about the events and of the state: what a bar, an arrow and a longest hold say.
 use Rattle.std.specs.Prelude.{◌≡◌, ◌≢◌, ℕ, ◌-◌, ◌≤◌, ◌⊎◌, Bool, true, false, not, List, [], ◌∷◌, ◌++◌, length, Some, MatchOption}
 use Rattle.std.specs.List.{AllByRecursion}
 use mathlib.Core.Option.{none, some}
@@ -81,7 +81,7 @@ pub record IsGivenBack (m : ℕ) (h : Hold) (past : List Event) : Type 0 where
 abbrev pub IsHold : ℕ → ℕ → Hold → List Event → Type 0
 IsHold n m h past = ((h.ended ≡ true) × IsGivenBack m h past) ⊎ ((h.ended ≡ false) × IsSince (Mutex m) h.since past × (h.last ≡ n - 1))
 
--- What is told as the longest hold of a mutex is one of its holds, and none is longer; where nothing is told there is none.
+-- What is shown as the longest hold of a mutex is one of its holds, and none is longer; where nothing is shown there is none.
 abbrev pub HoldsAreLongest : Type 0
 HoldsAreLongest =
     (past : List Event) (n m : ℕ) → MatchOption (longest_in (kept_since past) n m) ((h : Hold) → IsHold n m h past → ⊥)
@@ -96,7 +96,7 @@ pub record HasEvent (t start : ℕ) (past : List Event) : Type 0 where
   pub by : event.thread.0 ≡ t
   pub from : start ≤ length earlier
 
--- A thread is told to have run since an event exactly where one of the events from that one on is its own.
+-- A thread is shown to have run since an event exactly where one of the events from that one on is its own.
 abbrev pub RunsAreSeen : Type 0
 RunsAreSeen =
     (past : List Event) (start t : ℕ) → (has_run (kept_since past) start t ≡ true → HasEvent t start past)

@@ -16,7 +16,7 @@ pub struct Hold {
 }
 
 impl Hold {
-    /// By how many events the last is behind the first.
+    /// By how many events the last is after the first.
     pub fn length(&self) -> u64
         ensures { result ≡ held_for self.now }
     {

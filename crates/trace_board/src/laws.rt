@@ -32,12 +32,12 @@ pub fn lanes_are_own()
     ensures { LanesAreOwn }
 {}
 
-/// What is told as the longest hold of a mutex is one of its holds, and none is longer.
+/// What is shown as the longest hold of a mutex is one of its holds, and none is longer.
 pub fn holds_are_longest()
     ensures { HoldsAreLongest }
 {}
 
-/// A thread is told to have run since an event exactly where one of the events from that one on is its own.
+/// A thread is shown to have run since an event exactly where one of the events from that one on is its own.
 pub fn runs_are_seen()
     ensures { RunsAreSeen }
 {}

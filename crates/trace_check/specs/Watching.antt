@@ -32,7 +32,7 @@ IsReadTo budget bytes l es failed (Illegal place why) =
     (t : IsIllegalText budget bytes place why) × (t.layout ≡ l) × (t.events ≡ es) × (failed ≡ Some t.event)
 IsReadTo budget bytes l es failed _ = Unit {0}
 
--- the number of events that the verdict tells
+-- the number of events that the verdict reports
 abbrev pub IsCount : Verdict → ℕ → Type 0
 IsCount (Legal s) n = s.events ≡ n
 IsCount (Illegal place why) n = place ≡ n

@@ -87,7 +87,7 @@ pub fn check_with<I: Source, W: Watch>(
     ensures watched { IfOk result (λ f. HasWatched W.keeps budget (I.left input.old) watcher.old f.layout f.failed f.verdict
         watcher.new) }
     ensures stopped { IfErr result (HasStopped W.stops budget (I.left input.old) watcher.old watcher.new) }
-    // A read that fails is told, and can fail only where no verdict is due yet. So from the byte that decides on nothing is asked.
+    // A failed read is reported, and a read can fail only where no verdict is due yet. So nothing is asked once a byte decides.
     ensures told { IfOk result (λ f. f.verdict ≢ verdict.ReadFault → I.faults input.new ≡ I.faults input.old) }
     ensures unfailed { OnErr result (I.faults input.new ≡ I.faults input.old) }
     ensures later { I.faults input.old ≤ I.faults input.new }
@@ -195,7 +195,7 @@ pub fn check<I: Source>(input: &mut I, budget: u64) -> Verdict
     ensures exact { (bytes : List ℕ) (verdict : Verdict) → I.left input.old ≡ Some bytes → result ≢ Verdict.ReadFault
         → verdict ≢ Verdict.ReadFault
         → IsJust budget (I.left input.old) (I.left input.new) (I.faults input.old) (I.faults input.new) verdict → result ≡ verdict }
-    // A read that fails is told, and can fail only where no verdict is due yet. So from the byte that decides on nothing is asked.
+    // A failed read is reported, and a read can fail only where no verdict is due yet. So nothing is asked once a byte decides.
     ensures told { result ≢ Verdict.ReadFault → I.faults input.new ≡ I.faults input.old }
     ensures later { I.faults input.old ≤ I.faults input.new }
 {

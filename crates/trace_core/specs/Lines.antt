@@ -36,12 +36,12 @@ place_at n bytes = word_at (decimal n) bytes >>= word_at (codes " t")
 abbrev pub named_at : List ℕ → ℕ → ℕ → Reader ℕ
 named_at word bound stop = only_if (nat_lt 0 bound) (after_word word (number_at 0 bound stop))
 
--- the byte behind the last name, or behind a word with none: a newline where nothing may follow
+-- the byte after the last name, or after a word with none: a newline where nothing may follow
 abbrev pub stop_of : Endings → ℕ
 stop_of endings.Nothing = 10
 stop_of _ = 32
 
--- the byte behind a word
+-- the byte after a word
 abbrev pub gap_of : Kinds → Endings → ℕ
 gap_of kinds.Nothing es = stop_of es
 gap_of _ es = 32
@@ -49,7 +49,7 @@ gap_of _ es = 32
 abbrev pub outcome_of : Bool → Ending
 outcome_of returns = if returns then ending.Returns else ending.Raises
 
--- what stands behind the names
+-- what stands after the names
 abbrev pub ending_at : Layout → Endings → Reader Ending
 ending_at l endings.Nothing = λ rest. Ok (ending.Nothing, rest)
 ending_at l endings.Outcome = as_value outcome_of (flag_at (codes "returns" ++ 10 ∷ []) (codes "raises" ++ 10 ∷ []))
@@ -145,7 +145,7 @@ line_at (expect.Counts v) = as_value line.Counts (counts_at v)
 line_at (expect.Events l n) = event_or_end_at l n
 line_at (expect.Values l least) = value_at l least
 
--- what is asked for can come: the layout is lawful, another event may stand behind the next, and some mutex may have a value
+-- what is asked for can come: the layout is lawful, another event may stand after the next, and some mutex may have a value
 abbrev pub IsPossible : Expect → Type 0
 IsPossible expect.Head = Unit {0}
 IsPossible (expect.Counts v) = Unit {0}
@@ -185,7 +185,7 @@ IsTextFrom (expect.Counts v) bytes = IsLaid v bytes
 IsTextFrom (expect.Events l n) bytes = IsRest l n bytes
 IsTextFrom (expect.Values l least) bytes = IsSomeValues l least bytes
 
--- behind this line, the bytes are the rest of a trace text
+-- after this line, the bytes are the rest of a trace text
 abbrev pub IsTextBehind : Expect → Line → List ℕ → Type 0
 IsTextBehind expect.Head (line.Head v) bytes = IsLaid v bytes
 IsTextBehind (expect.Counts v) (line.Counts l) bytes = IsRest l 0 bytes

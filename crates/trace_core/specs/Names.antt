@@ -17,7 +17,7 @@ reaches least bound v =
 abbrev pub is_digit : ℕ → Bool
 is_digit c = nat_le 48 c && nat_le c 57
 
--- among several names, this one may be the last, or a higher one follows behind a space; a single name stands before a space
+-- among several names, this one may be the last, or a higher one follows after a space; a single name stands before a space
 abbrev pub may_stop : Bool → ℕ → ℕ → ℕ → Bool
 may_stop several bound v c = if several then (c == 10) || ((c == 32) && nat_lt (v + 1) bound) else c == 32
 
@@ -43,14 +43,14 @@ abbrev pub IsRising : ℕ → ℕ → List ℕ → Type 0
 IsRising least bound [] = Unit {0}
 IsRising least bound (t ∷ ts) = (least ≤ t) × (t < bound) × IsRising (t + 1) bound ts
 
--- the names behind the first ` t`
+-- the names after the first ` t`
 abbrev pub tail_at : ℕ → ℕ → ℕ → Reader (List ℕ)
 tail_at zero least bound bytes = Err Dead
 tail_at (suc fuel) least bound bytes =
     as_value (λ p. p.0.0 ∷ p.1) (both (number_from true least bound) (λ p. if p.1 == 10 then (λ rest. Ok ([], rest))
     else after_word (codes "t") (tail_at fuel (p.0 + 1) bound))) bytes
 
--- the names up to the end of the line, each behind ` t`
+-- the names up to the end of the line, each after ` t`
 abbrev pub names_at : ℕ → Reader (List ℕ)
 names_at bound = either (after_word (10 ∷ []) (λ rest. Ok ([], rest))) (after_word (codes " t") (tail_at bound 0 bound))
 

@@ -14,7 +14,7 @@ input_of r = r.input
 abbrev pub held_of : {I : Type 0} → EventReader I → List ℕ
 held_of r = r.progress.intake.window
 
--- where the reader is, given what the source tells
+-- where the reader is, given what the source shows
 abbrev pub standing : {I : Type 0} → (I → Option (List ℕ)) → EventReader I → Standing
 standing left r = standing_of r.progress (left r.input.now)
 

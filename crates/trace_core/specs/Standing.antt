@@ -7,7 +7,7 @@ use Rattle.trace_core.specs.declared.reader_state.Phase.{Phase}
 use Rattle.exact_text.specs.Intake.{rest_of, room_of}
 
 pub record Standing : Type 0 where
-  -- the bytes that aren't read yet, where the source tells them
+  -- the bytes that aren't read yet, where the source shows them
   pub rest : Option (List ℕ)
   -- how many of them may be read
   pub room : ℕ

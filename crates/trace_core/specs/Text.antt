@@ -42,22 +42,22 @@ members_from s t (suc n) = if in_set s t then t ∷ members_from s (t + 1) n els
 unfoldable pub members : ThreadSet → List ℕ
 members s = members_from s 0 most_threads
 
--- the names of the threads, each behind a space
+-- the names of the threads, each after a space
 abbrev pub names_text : List ℕ → List ℕ
 names_text [] = []
 names_text (t ∷ ts) = codes " t" ++ decimal t ++ names_text ts
 
--- the text, and behind it a name
+-- the text, and after it a name
 abbrev pub with_name : List ℕ → Kind → ℕ → List ℕ
 with_name prefix k n = prefix ++ (32 ∷ letter k ∷ []) ++ decimal n
 
--- the text, and behind it the names
+-- the text, and after it the names
 abbrev pub with_names : List ℕ → Kinds → Numbers → List ℕ
 with_names prefix kinds.Nothing x = prefix
 with_names prefix (kinds.One k) x = with_name prefix k x.first
 with_names prefix (kinds.Two k j) x = with_name (with_name prefix k x.first) j x.second
 
--- the text, and behind it the ending
+-- the text, and after it the ending
 abbrev pub with_ending : List ℕ → Ending → List ℕ
 with_ending prefix Nothing = prefix
 with_ending prefix Returns = prefix ++ codes " returns"
@@ -66,7 +66,7 @@ with_ending prefix Yes = prefix ++ codes " yes"
 with_ending prefix No = prefix ++ codes " no"
 with_ending prefix (Left left) = prefix ++ codes " left" ++ names_text (members left)
 
--- the word, the names behind it and the ending
+-- the word, the names after it and the ending
 abbrev pub row_text : Row → List ℕ
 row_text r = with_ending (with_names (word_text r.word) (kinds_of r.word) r.numbers) r.ending
 
@@ -80,7 +80,7 @@ event_line n e = decimal n ++ codes " t" ++ decimal e.thread.0 ++ codes " " ++ a
 abbrev pub end_line : ℕ → List ℕ
 end_line n = codes "end " ++ decimal n ++ newline
 
--- a mutex, and the value behind it
+-- a mutex, and the value after it
 pub record MutexValue : Type 0 where
   pub mutex : ℕ
   pub value : ℕ

@@ -20,12 +20,12 @@ abbrev pub little : List ℕ → ℕ
 little [] = 0
 little (b ∷ bytes) = b + 256 * little bytes
 
--- a name below the bound stands there, with this text behind it
+-- a name below the bound stands there, with this text after it
 pub record IsNameAt (bytes : List ℕ) (start bound : ℕ) (behind : List ℕ) (name : UsualName) : Type 0 where
   pub below : name.value < bound
   pub text : Stands bytes start (decimal name.value ++ behind) name.end
 
--- the names of a mutex and a condition stand there, with this text behind them
+-- the names of a mutex and a condition stand there, with this text after them
 pub record IsWaitAt (l : Layout) (bytes : List ℕ) (start : ℕ) (behind : List ℕ) (x : UsualWait) : Type 0 where
   pub mutex : x.mutex.0 < l.mutexes
   pub cond : x.cond.0 < l.conditions

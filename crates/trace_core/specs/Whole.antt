@@ -15,6 +15,6 @@ abbrev pub numbered : ℕ → List ℕ → List MutexValue
 numbered k [] = []
 numbered k (v ∷ vs) = record { mutex = k; value = v } ∷ numbered (k + 1) vs
 
--- the text was put behind the bytes that were held back: some were sent, and the others are held back now
+-- the text was put after the bytes that were held back: some were sent, and the others are held back now
 abbrev pub Flows : Option (List ℕ) → Option (List ℕ) → List ℕ → List ℕ → List ℕ → Type 0
 Flows old new before after text = (sent : List ℕ) × Appends old new sent × (sent ++ after ≡ before ++ text)

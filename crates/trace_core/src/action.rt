@@ -11,7 +11,7 @@ use larch_actions::{
     Action, Ending, Endings, Kind, Kinds, Layout, Numbers, Row, Version, WORDS, Word,
 };
 
-// The numbers of the names behind a word, the ending, and the bytes behind it.
+// The numbers of the names after a word, the ending, and the bytes after it.
 #[derive(Clone, Copy)]
 struct Parts<'b> {
     numbers: Numbers,
@@ -19,7 +19,7 @@ struct Parts<'b> {
     rest: &'b [u8],
 }
 
-// The byte behind the last name, or behind a word with none.
+// The byte after the last name, or after a word with none.
 fn stop(endings: Endings) -> u8
     ensures { result ≡ stop_of endings }
 {
@@ -29,7 +29,7 @@ fn stop(endings: Endings) -> u8
     }
 }
 
-// The byte behind a word.
+// The byte after a word.
 fn gap(kinds: Kinds, endings: Endings) -> u8
     ensures { result ≡ gap_of kinds endings }
 {
@@ -85,7 +85,7 @@ fn left<'b>(bytes: &'b [u8], layout: &Layout) -> Result<(Ending, &'b [u8]), Stop
     }
 }
 
-// Reads what stands behind the names.
+// Reads what stands after the names.
 fn ending<'b>(
     bytes: &'b [u8],
     layout: &Layout,

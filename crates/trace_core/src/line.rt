@@ -82,7 +82,7 @@ fn event_or_end<'b>(bytes: &'b [u8], layout: &Layout, place: u64) -> Result<(Lin
     }
 }
 
-// Reads the first line, which tells the version.
+// Reads the first line, which has the version.
 fn head(bytes: &[u8]) -> Result<(Line, &[u8]), Stop>
     ensures { Gives (λ x. (x.0, x.1.now)) result (head_at bytes.now) }
 {
@@ -93,7 +93,7 @@ fn head(bytes: &[u8]) -> Result<(Line, &[u8]), Stop>
     }
 }
 
-// Reads the counts behind that of the threads, up to the end of the layout line.
+// Reads the counts after that of the threads, up to the end of the layout line.
 fn last_counts(bytes: &[u8], version: Version, threads: u32) -> Result<(Layout, &[u8]), Stop>
     ensures { Gives (λ x. (x.0, x.1.now)) result (as_value (λ p. layout_from version (threads, p))
         (both (named_at (codes "mutexes ") (most_objects + 1) 32) (λ _. both (named_at (codes "conditions ") (most_objects + 1) 32)
@@ -160,7 +160,7 @@ fn value<'b>(bytes: &'b [u8], layout: &Layout, least: u32) -> Result<(Line, &'b 
     }
 }
 
-/// Reads the line that comes next, and gives the bytes behind it.
+/// Reads the line that comes next, and gives the bytes after it.
 pub fn line_of<'b>(bytes: &'b [u8], expect: &Expect) -> Result<(Line, &'b [u8]), Stop>
     requires { IsPossible expect.now }
     ensures { Gives (λ x. (x.0, x.1.now)) result (line_at expect.now bytes.now) }

@@ -1,4 +1,4 @@
-//! Lines of a trace text, written into a buffer behind its first `at` bytes. Each call says where it ended.
+//! Lines of a trace text, written into a buffer after its first `at` bytes. Each call returns where it ended.
 ghost use Rattle.std.specs.Prelude.{◌≡◌, ◌+◌, ◌≤◌, ◌++◌, length, take, codes, decimal};
 ghost use Rattle.trace_core.specs.Text.{newline, first_line, layout_line, head_text, members, names_text, with_name, with_names, with_ending, action_text, event_line, end_line, value_line};
 
@@ -59,7 +59,7 @@ fn add_named(buf: &mut [u8], at: usize, word: &[u8], n: u32) -> usize
     add_number(buf, at, u64::from(n))
 }
 
-// Adds the names of the threads, each behind a space.
+// Adds the names of the threads, each after a space.
 fn add_names(buf: &mut [u8], at: usize, left: &ThreadSet) -> usize
     requires { at + 1320 ≤ length buf.old }
     ensures text { take result buf.new ≡ take at buf.old ++ names_text (members left.now) }
@@ -74,7 +74,7 @@ fn add_names(buf: &mut [u8], at: usize, left: &ThreadSet) -> usize
     last
 }
 
-// Adds a name behind a space.
+// Adds a name after a space.
 #[inline(always)]
 fn add_name(buf: &mut [u8], at: usize, kind: Kind, n: u32) -> usize
     requires { at + 22 ≤ length buf.old }

@@ -25,7 +25,7 @@ fn reaches(least: u32, bound: u32, v: u32) -> bool
 }
 
 // Whether the byte may stop the number `v`: among several names this one may be the last, or a
-// higher one follows behind a space. A single name stands before a space.
+// higher one follows after a space. A single name stands before a space.
 fn may_stop(several: bool, bound: u32, v: u32, c: u8) -> bool
     requires { v < bound }
     ensures { result ≡ may_stop several bound v c }
@@ -37,7 +37,7 @@ fn may_stop(several: bool, bound: u32, v: u32, c: u8) -> bool
     }
 }
 
-/// A number, the byte that stopped it, and the bytes behind.
+/// A number, the byte that stopped it, and the bytes after.
 #[derive(Clone, Copy)]
 pub struct Stopped<'b> {
     pub value: u32,
@@ -78,7 +78,7 @@ pub fn number_from(bytes: &[u8], several: bool, least: u32, bound: u32) -> Resul
     Err(Stop::More)
 }
 
-// Reads the names behind the first ` t`.
+// Reads the names after the first ` t`.
 fn tail(bytes: &[u8], bound: u32) -> Result<(ThreadSet, &[u8]), Stop>
     requires some { 0 < bound }
     requires few { bound ≤ 256 }

@@ -54,7 +54,7 @@ impl<'a, I: Source> EventReader<'a, I> {
             ⊎ IsUndecided IsTrace IsLawful head_text (held_of self.old) }
         // What stays.
         ensures same_input { (input_of self.new).ghost_name ≡ (input_of self.old).ghost_name }
-        // A question that fails is told, and fails only where the bytes given don't decide: none is asked where they do.
+        // A failed question is reported, and one fails only where the bytes given don't decide: none is asked where they do.
         ensures unfailed { OnOk result (I.faults (input_of self.new).now ≡ I.faults (input_of self.old).now) }
         ensures told { IfErr result (λ fault. fault ≢ TextFault.Read
             → I.faults (input_of self.new).now ≡ I.faults (input_of self.old).now) }
@@ -86,7 +86,7 @@ impl<'a, I: Source> EventReader<'a, I> {
         ensures stays { (standing I.left self.old).phase ≢ phase.Events → self.new ≡ self.old }
         // What stays.
         ensures same_input { (input_of self.new).ghost_name ≡ (input_of self.old).ghost_name }
-        // A question that fails is told, and fails only where the bytes given don't decide: none is asked where they do.
+        // A failed question is reported, and one fails only where the bytes given don't decide: none is asked where they do.
         ensures unfailed { OnOk result (I.faults (input_of self.new).now ≡ I.faults (input_of self.old).now) }
         ensures told { IfErr result (λ fault. fault ≢ TextFault.Read
             → I.faults (input_of self.new).now ≡ I.faults (input_of self.old).now) }

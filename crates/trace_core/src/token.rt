@@ -6,7 +6,7 @@ ghost use Rattle.trace_core.specs.Lines.{named_at, place_at};
 use exact_text::{Stop, number, word};
 use itoa::Buffer;
 
-// Reads a number of up to 18 digits, and the space behind it.
+// Reads a number of up to 18 digits, and the space after it.
 fn short_number(bytes: &[u8]) -> Option<(u64, &[u8])>
     ensures { IfSome result (λ x. number_at 0 (2 ^ 64) 32 bytes.now ≡ Ok ((x.0, x.1.now))) }
 {

@@ -1,4 +1,4 @@
-//! What is said of the state before an event, written into a buffer behind its first `at` bytes. Each call says where it ended.
+//! What is said of the state before an event, written into a buffer after its first `at` bytes. Each call returns where it ended.
 ghost use Rattle.std.specs.Prelude.{◌≡◌, ◌+◌, ◌*◌, ◌<◌, ◌≤◌, ◌++◌, length, take};
 ghost use Rattle.trace_board.specs.Causes.{cause_of, IsSmall};
 ghost use Rattle.trace_board.specs.History.{entry_of, IsWithin};

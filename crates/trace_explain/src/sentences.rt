@@ -1,4 +1,4 @@
-//! The forms of sentences, written into a buffer behind its first `at` bytes. Each call says where it ended.
+//! The forms of sentences, written into a buffer after its first `at` bytes. Each call returns where it ended.
 ghost use Rattle.std.specs.Prelude.{◌≡◌, ◌+◌, ◌≤◌, ◌++◌, length, take};
 ghost use Rattle.trace_explain.specs.Sentences.{plain, since, standing, ended};
 

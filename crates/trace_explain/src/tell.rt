@@ -1,4 +1,4 @@
-//! The text for what a check finds, written into a buffer behind its first `at` bytes. Each call says where it ended.
+//! The text for what a check finds, written into a buffer after its first `at` bytes. Each call returns where it ended.
 ghost use Rattle.std.specs.Prelude.{◌≡◌, ◌+◌, ◌≤◌, ◌++◌, length, take, [], OnOk, OnErr, IfOk};
 ghost use Rattle.std.specs.Io.KnownBytes.{Appends};
 ghost use Rattle.firefly_outside.specs.Causes.{HasCause, AppendsPrefix};

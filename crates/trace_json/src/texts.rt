@@ -1,4 +1,4 @@
-//! The texts of events, written into a buffer behind its first `at` bytes. Each call says where it ended.
+//! The texts of events, written into a buffer after its first `at` bytes. Each call returns where it ended.
 ghost use Rattle.std.specs.Prelude.{◌≡◌, ◌+◌, ◌*◌, ◌≤◌, ◌++◌, ◌∷◌, [], length, take, codes};
 ghost use Rattle.larch_actions.specs.Layout.{IsLawful};
 ghost use Rattle.trace_core.specs.Text.{action_text};
@@ -105,7 +105,7 @@ fn add_action(buf: &mut [u8], at: usize, place: u64, e: &Event) -> usize
     let numbers = add_number(&mut line, 0, place);
     let numbers = add_number(&mut line, numbers, u64::from(e.thread.0));
     let end = add_event(&mut line, 0, place, e);
-    // before the action stand the numbers and `t` between two spaces, and behind it a newline
+    // before the action stand the numbers and `t` between two spaces, and after it a newline
     add(buf, at, &line[numbers + 3..end - 1])
 }
 

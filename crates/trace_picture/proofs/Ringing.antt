@@ -14,8 +14,8 @@ use Rattle.trace_core.specs.Standing.{Standing}
 use Rattle.trace_core.specs.Steps.{TakesHead, TakesEvent}
 use Rattle.trace_core.specs.Whole.{Flows}
 use Rattle.trace_check.proofs.UnderWay.{starts_on, step_on}
-use Rattle.lock_order.specs.declared.answer.Nested.{Nested}
-use Rattle.lock_order.specs.declared.nestings.Nestings.{Nestings}
+use Rattle.lock_order.specs.declared.answer.Edge.{Edge}
+use Rattle.lock_order.specs.declared.lock_graph.LockGraph.{LockGraph}
 use Rattle.lock_order.specs.Order.{IsFirst, TellsCycle}
 use Rattle.lock_order.specs.Kept.{IsKept}
 use Rattle.trace_shapes.specs.declared.view.View.{View}
@@ -29,11 +29,11 @@ use Rattle.trace_shapes.proofs.Added.{added_five}
 use Rattle.trace_picture.proofs.Drawing.{IsDrawing, drawing_starts, drawing_room, drawing_steps}
 
 -- so far these events were read and drawn, and where that is wanted it is kept what they nest
-pub record IsRinging (budget : ℕ) (left₀ : Option (List ℕ)) (before : ℕ) (st : Standing) (now : ℕ) (m : Moment) (count : ℕ) (v : View) (told₀ told : Option (List ℕ)) (kept : List ℕ) (k : Kept) (on : Bool) (n : Nestings) : Type 0 where
+pub record IsRinging (budget : ℕ) (left₀ : Option (List ℕ)) (before : ℕ) (st : Standing) (now : ℕ) (m : Moment) (count : ℕ) (v : View) (told₀ told : Option (List ℕ)) (kept : List ℕ) (k : Kept) (on : Bool) (n : LockGraph) : Type 0 where
   pub drawing : IsDrawing budget left₀ before st now m count v told₀ told kept k
   pub noted : on ≡ true → IsKept drawing.under_way.events (spec_of m) n
 
-pub ringing_starts : (budget : ℕ) (left₀ : Option (List ℕ)) (before now : ℕ) (p p' : Standing) (l : Layout) (m : Moment) (v : View) (told : Option (List ℕ)) (kept : List ℕ) (k : Kept) (on : Bool) (n : Nestings)
+pub ringing_starts : (budget : ℕ) (left₀ : Option (List ℕ)) (before now : ℕ) (p p' : Standing) (l : Layout) (m : Moment) (v : View) (told : Option (List ℕ)) (kept : List ℕ) (k : Kept) (on : Bool) (n : LockGraph)
     → p.rest ≡ left₀ → p.room ≡ budget → p.lines ≡ 0 → TakesHead p p' l → before ≤ now → m.layout ≡ l → spec_of m ≡ at_first l.version → kept ≡ [] ++ head_text l → k ≡ nothing_kept → ((version : Version) → IsKept [] (at_first version) n)
     → IsRinging budget left₀ before p' now m 0 v told told kept k on n
 unfolding starts_on drawing_starts
@@ -42,7 +42,7 @@ ringing_starts budget left₀ before now p p' l m v told kept k on n rest room l
   noted = λ wanted. subst (λ (z : Spec). IsKept [] z n) (sym first) (empty l.version);
 }
 
-module _ (budget : ℕ) (left₀ : Option (List ℕ)) (before now : ℕ) (p : Standing) (m : Moment) (count : ℕ) (v : View) (told₀ told : Option (List ℕ)) (kept : List ℕ) (k : Kept) (on : Bool) (n : Nestings)
+module _ (budget : ℕ) (left₀ : Option (List ℕ)) (before now : ℕ) (p : Standing) (m : Moment) (count : ℕ) (v : View) (told₀ told : Option (List ℕ)) (kept : List ℕ) (k : Kept) (on : Bool) (n : LockGraph)
     (r : IsRinging budget left₀ before p now m count v told₀ told kept k on n) where
   pub ringing_room : (told' : Option (List ℕ)) (kept' : List ℕ) → Flows told told' kept kept' [] → IsRinging budget left₀ before p now m count v told₀ told' kept' k on n
   unfolding drawing_room
@@ -51,7 +51,7 @@ module _ (budget : ℕ) (left₀ : Option (List ℕ)) (before now : ℕ) (p : St
     noted = r.noted;
   }
 
-  pub ringing_steps : (now' : ℕ) (p' : Standing) (m' : Moment) (e : Event) (kept' : List ℕ) (k' : Kept) (n' : Nestings) (l : Layout) → l ≡ p.layout → budget < 2 ^ 64 - 1 → TakesEvent p p' e → Acts (spec_of m) e (spec_of m') → m'.layout ≡ m.layout → now ≤ now'
+  pub ringing_steps : (now' : ℕ) (p' : Standing) (m' : Moment) (e : Event) (kept' : List ℕ) (k' : Kept) (n' : LockGraph) (l : Layout) → l ≡ p.layout → budget < 2 ^ 64 - 1 → TakesEvent p p' e → Acts (spec_of m) e (spec_of m') → m'.layout ≡ m.layout → now ≤ now'
       → kept' ≡ kept ++ step_text l v k count e → k' ≡ kept_after count e k
       → (on ≡ true → (es : List Event) (s s' : Spec) → count ≡ length es → Acts s e s' → IsKept es s n → IsKept (es ++ e ∷ []) s' n')
       → IsRinging budget left₀ before p' now' m' (count + 1) v told₀ told kept' k' on n'
@@ -62,31 +62,31 @@ module _ (budget : ℕ) (left₀ : Option (List ℕ)) (before now : ℕ) (p : St
   }
 
 -- the event of a nesting is one of the list
-first_near : (es : List Event) (n : Nested) → IsFirst es n → n.place < length es
+first_near : (es : List Event) (n : Edge) → IsFirst es n → n.place < length es
 first_near es n f = omega (arith, f.nests.counted, ap length f.nests.split, length-append f.nests.before (f.nests.event ∷ f.nests.after))
 
-all_near : (es : List Event) (bound : ℕ) → length es ≤ bound → (ns : List Nested) → AllByRecursion (IsFirst es) ns → AllByRecursion (λ (n : Nested). n.place < bound) ns
+all_near : (es : List Event) (bound : ℕ) → length es ≤ bound → (ns : List Edge) → AllByRecursion (IsFirst es) ns → AllByRecursion (λ (n : Edge). n.place < bound) ns
 all_near es bound le [] h = tt
 all_near es bound le (n ∷ ns) h = (omega (arith, first_near es n h.0), all_near es bound le ns h.1)
 
 -- the events of a cycle are below the bound that their count is below
-pub cycle_near : (es : List Event) (bound count : ℕ) (ns : List Nested) → TellsCycle es ns → count ≡ length es → count < bound → AllByRecursion (λ (n : Nested). n.place < bound) ns
+pub cycle_near : (es : List Event) (bound count : ℕ) (ns : List Edge) → TellsCycle es ns → count ≡ length es → count < bound → AllByRecursion (λ (n : Edge). n.place < bound) ns
 cycle_near es bound count ns c counted few = all_near es bound (omega arith) ns c.firsts
 
 -- one of them all
-pub one_near : (bound : ℕ) (ns : List Nested) (k : ℕ) (n : Nested) → k < length ns → n ≡ get_or ns k n → AllByRecursion (λ (n : Nested). n.place < bound) ns → n.place < bound
+pub one_near : (bound : ℕ) (ns : List Edge) (k : ℕ) (n : Edge) → k < length ns → n ≡ get_or ns k n → AllByRecursion (λ (n : Edge). n.place < bound) ns → n.place < bound
 one_near bound [] k n lt is h = absurd (omega arith)
-one_near bound (x ∷ ns) zero n lt is h = subst (λ (y : Nested). y.place < bound) (sym is) h.0
+one_near bound (x ∷ ns) zero n lt is h = subst (λ (y : Edge). y.place < bound) (sym is) h.0
 one_near bound (x ∷ ns) (suc k) n lt is h = one_near bound ns k n (omega arith) is h.1
 
 -- one more text
-pub texts_more : (f : Nested → List ℕ) (ns : List Nested) (k : ℕ) (n : Nested) → k < length ns → n ≡ get_or ns k n → flat_map f (take k ns) ++ f n ≡ flat_map f (take (k + 1) ns)
+pub texts_more : (f : Edge → List ℕ) (ns : List Edge) (k : ℕ) (n : Edge) → k < length ns → n ≡ get_or ns k n → flat_map f (take k ns) ++ f n ≡ flat_map f (take (k + 1) ns)
 texts_more f ns k n lt is =
     ap (λ l. flat_map f (take k ns) ++ l) (sym (append-nil (f n))) ∙ sym (flat_map-append f (take k ns) (n ∷ []))
     ∙ ap (λ x. flat_map f (take k ns ++ x ∷ [])) is ∙ ap (flat_map f) (sym (take_more ns k n lt))
 
 -- the pieces of a ring
-pub added_ring : (l : Layout) (v : View) (n : Nested) (x y m k : ℕ) (old a b c d e : List ℕ) → x ≡ event_x (band_of l v n.place) n.place → y ≡ ring_y l v n → m ≡ n.outer.0 → k ≡ n.inner.0
+pub added_ring : (l : Layout) (v : View) (n : Edge) (x y m k : ℕ) (old a b c d e : List ℕ) → x ≡ event_x (band_of l v n.place) n.place → y ≡ ring_y l v n → m ≡ n.outer.0 → k ≡ n.inner.0
     → a ≡ old ++ with_number (codes "<rect class='c' width='22' height='15' rx='3' x='") x → b ≡ a ++ with_number (codes "' y='") y → c ≡ b ++ with_number (codes "'><title>m") m
     → d ≡ c ++ with_number (codes " then m") k → e ≡ d ++ codes "</title></rect>\n" → e ≡ old ++ ring_text l v n
 unfolding ring_text

@@ -119,8 +119,7 @@ arrow_to b k n e = arrow_if b n e.thread.0 (let_on_by k (marks e).waker) ++ arro
 -- the event n: the row that it begins or ends, its mark and the number of its object, the bars that it ends, and the arrows to it
 unfoldable pub event_shapes : Band → Kept → ℕ → Event → List ℕ
 event_shapes b k n e =
-    number_text b n ++ life_row b n (marks e).life ++ mark_text b n e ++ object_if b n e ++ bars_ended (up_to b n) k (marks e)
-    ++ arrow_to b k n e
+    number_text b n ++ life_row b n (marks e).life ++ mark_text b n e ++ object_if b n e ++ bars_ended (up_to b n) k (marks e) ++ arrow_to b k n e
 
 -- all that the event n adds, where it is drawn
 unfoldable pub step_text : Layout → View → Kept → ℕ → Event → List ℕ

@@ -44,7 +44,7 @@ unfoldable pub head_text : Layout → List ℕ
 head_text l =
     style_text ++ pattern_text ++ (each_below entry_at 16 ++ other_words) ++ many_if l.mutexes ++ over_words ++ life_legend l.version
 
--- what events add behind this past, in order
+-- what events add after this past, in order
 unfoldable pub steps_text : Layout → View → List Event → List Event → List ℕ
 steps_text l v past [] = []
 steps_text l v past (e ∷ es) = step_text l v (kept_since past) (length past) e ++ steps_text l v (e ∷ past) es

@@ -7,8 +7,8 @@ use Rattle.firefly_outside.specs.Causes.{AppendsPrefix}
 use Rattle.larch_actions.specs.declared.event.Layout.{Layout}
 use Rattle.larch_actions.specs.declared.event.Event.{Event}
 use Rattle.larch_actions.specs.Actions.{Spec}
-use Rattle.lock_order.specs.declared.answer.Nested.{Nested}
-use Rattle.lock_order.specs.declared.nestings.Nestings.{Nestings}
+use Rattle.lock_order.specs.declared.answer.Edge.{Edge}
+use Rattle.lock_order.specs.declared.lock_graph.LockGraph.{LockGraph}
 use Rattle.lock_order.specs.Order.{HasCycle, TellsCycle}
 use Rattle.lock_order.specs.Kept.{IsKept}
 use Rattle.trace_shapes.specs.declared.view.View.{View}
@@ -19,21 +19,21 @@ use Rattle.trace_picture.specs.Bands.{band_number}
 use Rattle.trace_picture.specs.Picture.{closing_if, end_text, ending, legal_words, prefix_picture}
 
 -- the upper edge of the mark of the event by which the inner mutex was got while the outer one was held
-abbrev pub ring_y : Layout → View → Nested → ℕ
+abbrev pub ring_y : Layout → View → Edge → ℕ
 ring_y l v n = band_top l (band_number v (band_of l v n.place)) + mark_y (band_of l v n.place) n.thread.0
 
 -- an edge of this mark, with the two mutexes as its title
-unfoldable pub ring_text : Layout → View → Nested → List ℕ
+unfoldable pub ring_text : Layout → View → Edge → List ℕ
 ring_text l v n =
     with_number (codes "<rect class='c' width='22' height='15' rx='3' x='") (event_x (band_of l v n.place) n.place)
     ++ with_number (codes "' y='") (ring_y l v n) ++ with_number (codes "'><title>m") n.outer.0
     ++ with_number (codes " then m") n.inner.0 ++ codes "</title></rect>\n"
 
 -- the ring, where the event is drawn
-abbrev pub ring_if : Layout → View → Nested → List ℕ
+abbrev pub ring_if : Layout → View → Edge → List ℕ
 ring_if l v n = if in_view v n.place then ring_text l v n else []
 
-abbrev pub rings_text : Layout → View → List Nested → List ℕ
+abbrev pub rings_text : Layout → View → List Edge → List ℕ
 rings_text l v ns = flat_map (ring_if l v) ns
 
 abbrev pub ringed_words : List ℕ
@@ -43,13 +43,13 @@ abbrev pub no_cycle_words : List ℕ
 no_cycle_words = codes "legal, no lock-order cycle, events: "
 
 -- the end of the picture of n events, with rings around the events of this cycle
-abbrev pub ringed_ending : Layout → View → Kept → ℕ → List Nested → List ℕ
+abbrev pub ringed_ending : Layout → View → Kept → ℕ → List Edge → List ℕ
 ringed_ending l v k n ns = closing_if l v k n ++ rings_text l v ns ++ end_text l v k n (with_number ringed_words n)
 
 -- A cycle of the events is ringed, or they have none and this is said.
 abbrev pub ShowsOrdered : Layout → View → Kept → ℕ → List Event → List ℕ → Type 0
 ShowsOrdered l v k n es text =
-    ((ns : List Nested) × TellsCycle es ns × (text ≡ ringed_ending l v k n ns)) ⊎ ((¬ HasCycle es) × (text ≡ ending l v k n no_cycle_words))
+    ((ns : List Edge) × TellsCycle es ns × (text ≡ ringed_ending l v k n ns)) ⊎ ((¬ HasCycle es) × (text ≡ ending l v k n no_cycle_words))
 
 -- the end of the picture of n legal events, where the lock order is wanted or not
 abbrev pub IsEnding : Bool → Layout → View → Kept → ℕ → List Event → List ℕ → Type 0
@@ -62,7 +62,7 @@ IsLegalPicture l v es text =
     (end : List ℕ) × IsEnding v.ordered l v (kept_since (behind [] es)) (length es) es end × (text ≡ prefix_picture l v es ++ end)
 
 -- it is kept what n events nest
-abbrev pub AreNoted : Nestings → ℕ → Type 0
+abbrev pub AreNoted : LockGraph → ℕ → Type 0
 AreNoted k n = (es : List Event) × (now : Spec) × IsKept es now k × (n ≡ length es)
 
 -- the sink got this text, or a prefix of it where it failed

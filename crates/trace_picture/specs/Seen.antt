@@ -78,8 +78,7 @@ pub record IsBarTo (whole : List ℕ) (past : List Event) (name : List ℕ) (x :
   pub o : Origin
   pub lane : ℕ
   pub since : IsSince x o past
-  pub drawn : HasText whole (name
-      ++ box_text (bar_x (up_to b n) o) (upper_of l o.thread.0 + LANE_TOP + LANE * lane) (bar_width (up_to b n) o))
+  pub drawn : HasText whole (name ++ box_text (bar_x (up_to b n) o) (upper_of l o.thread.0 + LANE_TOP + LANE * lane) (bar_width (up_to b n) o))
   pub from_taking : b.start ≤ o.place → bar_x (up_to b n) o ≡ LEFT + COLUMN * (o.place - b.start)
   pub from_before : o.place < b.start → bar_x (up_to b n) o ≡ LEFT
   pub ends : bar_x (up_to b n) o + bar_width (up_to b n) o ≡ LEFT + COLUMN * (n + 1 - b.start) - BAR_GAP
@@ -131,8 +130,7 @@ JoinsAreDrawn =
     (l : Layout) (v : View) (es : List Event) (s : Spec) → IsRun l.version es s → (e : Event) → MayAct s e → (who : ThreadId)
     → e.action ≡ Join who → in_view v (length es) ≡ true
     → (o : Origin) × IsMadeBy l.version (λ z. is_ended (z.life who.0)) es s o
-    × HasText (step_text l v (kept_since (behind [] es)) (length es) e)
-    (arrow_text (link (band_of l v (length es)) (length es) e.thread.0 o))
+    × HasText (step_text l v (kept_since (behind [] es)) (length es) e) (arrow_text (link (band_of l v (length es)) (length es) e.thread.0 o))
 
 -- The first event of each thread that was forked has, in view, an arrow from its fork.
 abbrev pub ForksAreDrawn : Type 0
@@ -140,10 +138,9 @@ ForksAreDrawn =
     (l : Layout) (v : View) (es : List Event) (s : Spec) → IsRun l.version es s → (e : Event) → MayAct s e → (o : Origin)
     → forked_by (kept_since (behind [] es)) e.thread.0 ≡ Some o → in_view v (length es) ≡ true
     → IsMadeBy l.version (λ z. is_live (z.life e.thread.0)) es s o × (HasEvent e.thread.0 0 (behind [] es) → ⊥)
-    × HasText (step_text l v (kept_since (behind [] es)) (length es) e)
-    (arrow_text (link (band_of l v (length es)) (length es) e.thread.0 o))
+    × HasText (step_text l v (kept_since (behind [] es)) (length es) e) (arrow_text (link (band_of l v (length es)) (length es) e.thread.0 o))
 
--- The last lines of a picture tell the longest hold of each mutex: by whom, how many events, from which event to which, or that there is none.
+-- The last lines of a picture show the longest hold of each mutex: by whom, how many events, from which event to which, or that there is none.
 abbrev pub HoldsAreTold : Type 0
 HoldsAreTold =
     (l : Layout) (v : View) (past : List Event) (n : ℕ) (note : List ℕ) (m : ℕ) → m < l.mutexes

@@ -421,8 +421,7 @@ fn add_drawn(
     requires few { place < 2 ^ 41 }
     requires room { at + 400000 ≤ length buf.old }
     ensures text { take result buf.new ≡ take at buf.old ++
-        (opening layout.now view.now (kept_of board.old) place
-        ++ event_shapes (band_of layout.now view.now place) (kept_of board.old) place e.now
+        (opening layout.now view.now (kept_of board.old) place ++ event_shapes (band_of layout.now view.now place) (kept_of board.old) place e.now
         ++ closing_after layout.now view.now (kept_of board.new) place) }
     ensures kept { kept_of board.new ≡ kept_after place e.now (kept_of board.old) }
     ensures near { result ≤ at + 400000 }

@@ -22,7 +22,7 @@ use crate::head::add_head;
 use crate::rings::{end_legal, note_if};
 use firefly_outside::{Sink, SinkFault, Source, put_all};
 use larch_actions::{Layout, State, Totals};
-use lock_order::Nestings;
+use lock_order::LockGraph;
 use trace_board::board::Board;
 use trace_check::{Summary, Verdict};
 use trace_core::{EventReader, TextFault};
@@ -124,7 +124,7 @@ pub fn draw_trace<I: Source, O: Sink>(
     ensures drawn { IfOk result (λ v. IsDrawn budget view.now (I.left input.old) (O.held out.old) (O.held out.new) v) }
     ensures cut_off { OnErr result (IsCutOff budget view.now (I.left input.old) (O.held out.old) (O.held out.new)) }
     ensures cause { HasCause (O.faults out.old) (O.faults out.new) result }
-    // A read that fails is told, and can fail only where no verdict is due yet. So from the byte that decides on nothing is asked.
+    // A failed read is reported, and a read can fail only where no verdict is due yet. So nothing is asked once a byte decides.
     ensures told { IfOk result (λ v. v ≢ verdict.ReadFault → I.faults input.new ≡ I.faults input.old) }
     ensures later { I.faults input.old ≤ I.faults input.new }
 {
@@ -153,15 +153,15 @@ fn draw_by<I: Source, O: Sink>(
     ensures later { I.faults input.old ≤ I.faults input.new }
 {
     let mut reader = EventReader::new(input, budget);
-    let mut nestings = Nestings::new();
-    draw_all(&mut reader, view, &mut nestings, buf, out)
+    let mut graph = LockGraph::new();
+    draw_all(&mut reader, view, &mut graph, buf, out)
 }
 
 // Draws what a new reader gives.
 fn draw_all<I: Source, O: Sink>(
     reader: &mut EventReader<I>,
     view: &View,
-    nestings: &mut Nestings,
+    graph: &mut LockGraph,
     buf: &mut [u8],
     out: &mut O,
 ) -> Result<Verdict, SinkFault>
@@ -169,7 +169,7 @@ fn draw_all<I: Source, O: Sink>(
     requires lines { (standing I.left reader.old).lines ≡ 0 }
     requires large { 458000 ≤ length buf.old }
     requires fits { (standing I.left reader.old).room ≤ 2 ^ 40 }
-    requires empty { (version : Version) → IsKept [] (at_first version) nestings.old }
+    requires empty { (version : Version) → IsKept [] (at_first version) graph.old }
     ensures just { IfOk result (λ v. IsJust (standing I.left reader.old).room (standing I.left reader.old).rest (I.left
         (input_of reader.new).now)
         (I.faults (input_of reader.old).now) (I.faults (input_of reader.new).now) v) }
@@ -198,7 +198,7 @@ fn draw_all<I: Source, O: Sink>(
         match reader.next_event() {
             Ok(Some(event)) => match state.apply(&event) {
                 Ok(()) => {
-                    note_if(nestings, view.ordered, &event, place);
+                    note_if(graph, view.ordered, &event, place);
                     at = add_step(buf, free, &layout, view, &mut board, place, &event);
                     place += 1;
                 }
@@ -213,7 +213,7 @@ fn draw_all<I: Source, O: Sink>(
             },
             Ok(None) => {
                 let totals = state.summary();
-                return match end_legal(buf, free, &layout, view, &board, nestings, place, out) {
+                return match end_legal(buf, free, &layout, view, &board, graph, place, out) {
                     Ok(()) => Ok(legal(place, &totals)),
                     Err(fault) => Err(fault),
                 };

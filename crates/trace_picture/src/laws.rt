@@ -46,7 +46,7 @@ pub fn forks_are_drawn()
     ensures { ForksAreDrawn }
 {}
 
-/// The last lines tell the longest hold of each mutex: by whom, how many events, and from which event to which.
+/// The last lines show the longest hold of each mutex: by whom, how many events, and from which event to which.
 pub fn holds_are_told()
     ensures { HoldsAreTold }
 {}

@@ -1,4 +1,4 @@
-//! The rows of threads that begin and end, written into a buffer behind its first `at` bytes. Each call says where it ended.
+//! The rows of threads that begin and end, written into a buffer after its first `at` bytes. Each call returns where it ended.
 ghost use Rattle.std.specs.Prelude.{◌≡◌, ◌+◌, ◌-◌, ◌*◌, ◌<◌, ◌≤◌, ◌^◌, ◌++◌, length, take, codes};
 ghost use Rattle.trace_board.specs.Kept.{kept_of, forked_by};
 ghost use Rattle.trace_board.specs.Laws.{is_live};
@@ -65,8 +65,7 @@ fn add_row_if(
 pub fn add_rows(buf: &mut [u8], at: usize, layout: &Layout, band: &Band, board: &Board) -> usize
     requires lawful { IsLawful layout.now }
     requires room { at + 64000 ≤ length buf.old }
-    ensures text { take result buf.new ≡ take at buf.old ++
-        each_below (row_if layout.now.version band.now (kept_of board.now)) layout.now.threads }
+    ensures text { take result buf.new ≡ take at buf.old ++ each_below (row_if layout.now.version band.now (kept_of board.now)) layout.now.threads }
     ensures near { result ≤ at + 64000 }
 {
     let mut last = at;

@@ -1,4 +1,4 @@
-//! The last lines of a picture: the longest hold of each mutex, written into a buffer behind its first `at` bytes. Each call says where it ended.
+//! The last lines of a picture: the longest hold of each mutex, written into a buffer after its first `at` bytes. Each call returns where it ended.
 ghost use Rattle.std.specs.Prelude.{◌≡◌, ◌+◌, ◌*◌, ◌/◌, ◌%◌, ◌<◌, ◌≤◌, ◌^◌, ◌++◌, length, take, codes};
 ghost use Rattle.larch_actions.specs.Layout.{IsLawful};
 ghost use Rattle.trace_board.specs.Kept.{kept_of, longest_in};

@@ -6,7 +6,7 @@ ghost use Rattle.firefly_outside.specs.Causes.{HasCause, AppendsPrefix};
 ghost use Rattle.larch_actions.specs.declared.event.Event.{Event};
 ghost use Rattle.larch_actions.specs.Layout.{IsLawful};
 ghost use Rattle.larch_actions.specs.Actions.{Spec, Acts};
-ghost use Rattle.lock_order.specs.declared.answer.Nested.{Nested};
+ghost use Rattle.lock_order.specs.declared.answer.Edge.{Edge};
 ghost use Rattle.lock_order.specs.Kept.{HasPlace, IsKept};
 ghost use Rattle.trace_board.specs.Kept.{kept_of};
 ghost use Rattle.trace_shapes.specs.Places.{band_of};
@@ -16,7 +16,7 @@ use crate::bands::{number_of, top_of};
 use crate::endings::{add_end, add_last_closing, end_with};
 use firefly_outside::{Sink, SinkFault, put_all};
 use larch_actions::{Event, Layout};
-use lock_order::{Cycle, Nested, Nestings, cycle_in};
+use lock_order::{Cycle, Edge, LockGraph, cycle_in};
 use trace_board::board::Board;
 use trace_core::add;
 use trace_shapes::shapes::{event_x, mark_y};
@@ -25,38 +25,38 @@ use trace_shapes::view::{Band, View, band_of, is_in_view};
 
 /// Notes what the event nests, where the lock order is wanted.
 #[inline(always)]
-pub fn note_if(nestings: &mut Nestings, ordered: bool, e: &Event, place: u64)
+pub fn note_if(graph: &mut LockGraph, ordered: bool, e: &Event, place: u64)
     requires { HasPlace e.now }
     ensures { ordered ≡ true → (es : List Event) (now next : Spec) → place ≡ length es → Acts now e.now next
-        → IsKept es now nestings.old → IsKept (es ++ e.now ∷ []) next nestings.new }
+        → IsKept es now graph.old → IsKept (es ++ e.now ∷ []) next graph.new }
 {
     if ordered {
-        nestings.note(e, place);
+        graph.note(e, place);
     }
 }
 
 // The upper edge of the mark that is ringed, in its band.
-fn top_of_ring(layout: &Layout, view: &View, band: &Band, nested: &Nested) -> u64
+fn top_of_ring(layout: &Layout, view: &View, band: &Band, edge: &Edge) -> u64
     requires lawful { IsLawful layout.now }
-    requires few { nested.now.place < 2 ^ 42 }
-    requires band { band.now ≡ band_of layout.now view.now nested.now.place }
-    ensures { result ≡ ring_y layout.now view.now nested.now }
+    requires few { edge.now.place < 2 ^ 42 }
+    requires band { band.now ≡ band_of layout.now view.now edge.now.place }
+    ensures { result ≡ ring_y layout.now view.now edge.now }
 {
-    top_of(layout, number_of(view, band)) + mark_y(band, nested.thread.0)
+    top_of(layout, number_of(view, band)) + mark_y(band, edge.thread.0)
 }
 
 // Adds a ring.
 #[tactic(auto, unfolding(crate::specs::Rings::ring_text))]
-fn add_ring(buf: &mut [u8], at: usize, layout: &Layout, view: &View, nested: &Nested) -> usize
+fn add_ring(buf: &mut [u8], at: usize, layout: &Layout, view: &View, edge: &Edge) -> usize
     requires lawful { IsLawful layout.now }
-    requires few { nested.now.place < 2 ^ 42 }
+    requires few { edge.now.place < 2 ^ 42 }
     requires room { at + 220 ≤ length buf.old }
-    ensures text { take result buf.new ≡ take at buf.old ++ ring_text layout.now view.now nested.now }
+    ensures text { take result buf.new ≡ take at buf.old ++ ring_text layout.now view.now edge.now }
     ensures near { result ≤ at + 220 }
 {
-    let band = band_of(layout, view, nested.place);
-    let x = event_x(&band, nested.place);
-    let y = top_of_ring(layout, view, &band, nested);
+    let band = band_of(layout, view, edge.place);
+    let x = event_x(&band, edge.place);
+    let y = top_of_ring(layout, view, &band, edge);
     let at = add_with_number(
         buf,
         at,
@@ -64,21 +64,21 @@ fn add_ring(buf: &mut [u8], at: usize, layout: &Layout, view: &View, nested: &Ne
         x,
     );
     let at = add_with_number(buf, at, b"' y='", y);
-    let at = add_with_number(buf, at, b"'><title>m", u64::from(nested.outer.0));
-    let at = add_with_number(buf, at, b" then m", u64::from(nested.inner.0));
+    let at = add_with_number(buf, at, b"'><title>m", u64::from(edge.outer.0));
+    let at = add_with_number(buf, at, b" then m", u64::from(edge.inner.0));
     add(buf, at, b"</title></rect>\n")
 }
 
 // Adds the ring, where its event is drawn.
-fn add_ring_if(buf: &mut [u8], at: usize, layout: &Layout, view: &View, nested: &Nested) -> usize
+fn add_ring_if(buf: &mut [u8], at: usize, layout: &Layout, view: &View, edge: &Edge) -> usize
     requires lawful { IsLawful layout.now }
-    requires few { nested.now.place < 2 ^ 42 }
+    requires few { edge.now.place < 2 ^ 42 }
     requires room { at + 220 ≤ length buf.old }
-    ensures text { take result buf.new ≡ take at buf.old ++ ring_if layout.now view.now nested.now }
+    ensures text { take result buf.new ≡ take at buf.old ++ ring_if layout.now view.now edge.now }
     ensures near { result ≤ at + 220 }
 {
-    if is_in_view(view, nested.place) {
-        add_ring(buf, at, layout, view, nested)
+    if is_in_view(view, edge.place) {
+        add_ring(buf, at, layout, view, edge)
     } else {
         at
     }
@@ -87,15 +87,15 @@ fn add_ring_if(buf: &mut [u8], at: usize, layout: &Layout, view: &View, nested: 
 // Adds the rings of a cycle.
 fn add_rings(buf: &mut [u8], at: usize, layout: &Layout, view: &View, cycle: &Cycle) -> usize
     requires lawful { IsLawful layout.now }
-    requires few { AllByRecursion (λ (n : Nested). n.place < 2 ^ 42) cycle.now }
+    requires few { AllByRecursion (λ (n : Edge). n.place < 2 ^ 42) cycle.now }
     requires room { at + 220 * 64 ≤ length buf.old }
     ensures text { take result buf.new ≡ take at buf.old ++ rings_text layout.now view.now cycle.now }
     ensures near { result ≤ at + 220 * 64 }
 {
     let mut last = at;
     for k in 0..cycle.len() {
-        let nested = cycle.at(k);
-        last = add_ring_if(buf, last, layout, view, &nested);
+        let edge = cycle.at(k);
+        last = add_ring_if(buf, last, layout, view, &edge);
     }
     last
 }
@@ -112,7 +112,7 @@ fn add_ringed_ending(
 ) -> usize
     requires lawful { IsLawful layout.now }
     requires few { count < 2 ^ 42 }
-    requires places { AllByRecursion (λ (n : Nested). n.place < 2 ^ 42) cycle.now }
+    requires places { AllByRecursion (λ (n : Edge). n.place < 2 ^ 42) cycle.now }
     requires room { at + 440000 ≤ length buf.old }
     ensures text { take result buf.new ≡ take at buf.old ++ ringed_ending layout.now view.now (kept_of board.now) count cycle.now }
     ensures near { result ≤ at + 440000 }
@@ -143,7 +143,7 @@ fn end_ringed<O: Sink>(
 ) -> Result<(), SinkFault>
     requires lawful { IsLawful layout.now }
     requires few { count < 2 ^ 42 }
-    requires places { AllByRecursion (λ (n : Nested). n.place < 2 ^ 42) cycle.now }
+    requires places { AllByRecursion (λ (n : Edge). n.place < 2 ^ 42) cycle.now }
     requires room { at + 440000 ≤ length buf.old }
     ensures ok { OnOk result (Appends (O.held out.old) (O.held out.new)
         (take at buf.old ++ ringed_ending layout.now view.now (kept_of board.now) count cycle.now)) }
@@ -162,20 +162,20 @@ fn end_ordered<O: Sink>(
     layout: &Layout,
     view: &View,
     board: &Board,
-    nestings: &Nestings,
+    graph: &LockGraph,
     count: u64,
     out: &mut O,
 ) -> Result<(), SinkFault>
     requires lawful { IsLawful layout.now }
     requires few { count < 2 ^ 42 }
-    requires noted { AreNoted nestings.now count }
+    requires noted { AreNoted graph.now count }
     requires room { at + 440000 ≤ length buf.old }
-    ensures ended { (es : List Event) (now : Spec) → IsKept es now nestings.now
+    ensures ended { (es : List Event) (now : Spec) → IsKept es now graph.now
         → (end : List ℕ) × ShowsOrdered layout.now view.now (kept_of board.now) count es end
         × Sends result (O.held out.old) (O.held out.new) (take at buf.old ++ end) }
     ensures cause { HasCause (O.faults out.old) (O.faults out.new) result }
 {
-    match cycle_in(nestings) {
+    match cycle_in(graph) {
         Some(cycle) => end_ringed(buf, at, layout, view, board, &cycle, count, out),
         None => end_with(
             buf,
@@ -197,21 +197,21 @@ pub fn end_legal<O: Sink>(
     layout: &Layout,
     view: &View,
     board: &Board,
-    nestings: &Nestings,
+    graph: &LockGraph,
     count: u64,
     out: &mut O,
 ) -> Result<(), SinkFault>
     requires lawful { IsLawful layout.now }
     requires few { count < 2 ^ 42 }
-    requires noted { view.now.ordered ≡ true → AreNoted nestings.now count }
+    requires noted { view.now.ordered ≡ true → AreNoted graph.now count }
     requires room { at + 440000 ≤ length buf.old }
-    ensures ended { (es : List Event) (now : Spec) → (view.now.ordered ≡ true → IsKept es now nestings.now)
+    ensures ended { (es : List Event) (now : Spec) → (view.now.ordered ≡ true → IsKept es now graph.now)
         → (end : List ℕ) × IsEnding view.now.ordered layout.now view.now (kept_of board.now) count es end
         × Sends result (O.held out.old) (O.held out.new) (take at buf.old ++ end) }
     ensures cause { HasCause (O.faults out.old) (O.faults out.new) result }
 {
     if view.ordered {
-        end_ordered(buf, at, layout, view, board, nestings, count, out)
+        end_ordered(buf, at, layout, view, board, graph, count, out)
     } else {
         end_with(buf, at, layout, view, board, count, b"legal, events: ", out)
     }

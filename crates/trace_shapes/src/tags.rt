@@ -1,4 +1,4 @@
-//! Parts of tags, written into a buffer behind its first `at` bytes. Each call says where it ended.
+//! Parts of tags, written into a buffer after its first `at` bytes. Each call returns where it ended.
 ghost use Rattle.std.specs.Prelude.{◌≡◌, ◌+◌, ◌≤◌, ◌++◌, length, take, decimal};
 ghost use Rattle.trace_shapes.specs.Shapes.{with_number, place_text, box_text, line_of};
 

@@ -43,7 +43,7 @@ pub record IsFaultUnder (t : Told) (root : Path) (weak : List Path) (path : Path
   pub under : IsUnder t root kind path
   pub may : Contains weak path ⊎ ¬ IsThere t kind path
 
--- what the answers say of a tree that tells
+-- what the answers say of a tree that shows its contents
 abbrev pub Answers : Path → Option ℕ → List Path → WalkAnswer → Told → Type 0
 Answers root stop weak (Done piece) t = IsWhole t root stop piece
 Answers root stop weak (Stopped many) t = AreMany t root File many

@@ -9,7 +9,7 @@ IsBelow root path = (q : Path) × (path ≡ child root q)
 abbrev pub AreBelow : Path → List Path → Type 0
 AreBelow root paths = (p : Path) → Contains paths p → IsBelow root p
 
--- the path without the root and the slash behind it
+-- the path without the root and the slash after it
 abbrev pub name_in : Path → Path → Path
 name_in root path = drop (length (root ++ slash ∷ [])) path
 

@@ -44,7 +44,7 @@ pub record AreKept (pieces : List Index) (held : Held) (files : List File) : Typ
 abbrev pub AreDistinct : List File → Type 0
 AreDistinct files = AllPairs (λ p q. p ≢ q) (map (λ f. f.path) files)
 
--- what reading one more file tells
+-- what reading one more file reports
 abbrev pub ReadsNext : {T : Type 0} → Path → Path → List Path → Calls → Calls → Result T WalkAnswer → Told → Type 0
 ReadsNext root name weak before now (Ok piece) t = now ≡ with_read before (child root name)
 ReadsNext root name weak before now (Err (Done piece)) t = ⊥
@@ -80,7 +80,7 @@ pub record ReadsSome (w : Walk) (covered : List Path) (before now : Calls) (answ
   pub read : now.files_read ≡ before.files_read ++ map (child w.root) names
   pub failed : now.failed ≡ before.failed ++ failed_by answer
 
--- what a walk that stops while it reads tells of the tree
+-- what a walk that stops while it reads reports of the tree
 abbrev pub StopsReading : Walk → List Path → WalkAnswer → Told → Type 0
 StopsReading w weak (Done piece) t = ⊥
 StopsReading w weak (Stopped many) t = ⊥
@@ -94,7 +94,7 @@ IsRead tree w covered weak before now pieces (Ok v) = HasRead tree w covered bef
 IsRead tree w covered weak before now pieces (Err answer) =
     IfSome tree (λ t. StopsReading w weak answer t × ReadsSome w covered before now answer)
 
--- what reading the rest tells
+-- what reading the rest reports
 abbrev pub ReadsRest : Walk → List Path → List Path → Calls → Calls → WalkAnswer → Told → Type 0
 ReadsRest w covered weak before now (Done piece) t = IsTreeIndex t w.root piece × ReadsSome w covered before now (Done piece)
 ReadsRest w covered weak before now (Stopped many) t = ⊥

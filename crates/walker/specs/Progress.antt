@@ -24,7 +24,7 @@ abbrev pub StepCounts : {T : Type 0} → ℕ → ℕ → Result T WalkAnswer →
 StepCounts before now (Ok v) = now ≡ before
 StepCounts before now (Err answer) = HasRisen before now answer
 
--- a step leaves what the tree tells and which paths may fail, and the count as it may be after it
+-- a step leaves what the tree shows and which paths may fail, and the count as it may be after it
 pub record StepStays {T : Type 0} (old new : Option Told) (may might : List Path) (before now : ℕ) (result : Result T WalkAnswer) : Type 0
   where
     pub tree : new ≡ old
@@ -66,7 +66,7 @@ pub record KeptLimits (first : Walk) (stop : Option ℕ) (before now : Calls) (t
   pub last : Path
   pub listed : now.listed ≡ calls.listed ++ last ∷ []
 
--- the walk as the listings made so far leave it passes a limit, which is told: of the directories first. Before the last listing
+-- the walk as the listings made so far leave it passes a limit, which is reported: of the directories first. Before the last listing
 -- neither was passed
 pub record HasPassed (first : Walk) (stop : Option ℕ) (before now : Calls) (answer : WalkAnswer) (t : Told) : Type 0 where
   pub walk : Walk
@@ -94,14 +94,14 @@ StopsListing old weak before now answer t = IsSound old → IsWalkOf old t → (
 abbrev pub ListsOne : Walk → Walk → Calls → Calls → Type 0
 ListsOne old new before now = ((new ≡ old) × (now ≡ before)) ⊎ ((dir : Path) × (now.listed ≡ before.listed ++ dir ∷ []))
 
--- what one step of listing tells
+-- what one step of listing reports
 abbrev pub ListsAt : {T : Type 0} → Walk → Walk → List Path → Calls → Calls → Result T WalkAnswer → Told → Type 0
 ListsAt old new weak before now (Ok v) t = (IsWalkOf old t → IsWalkOf new t)
     × (IsSound old → (first : Walk) (start : Calls) → ListsMore first old start before → ListsMore first new start now)
     × ListsOne old new before now
 ListsAt old new weak before now (Err answer) t = StopsListing old weak before now answer t
 
--- what listing the rest tells
+-- what listing the rest reports
 abbrev pub ListsRest : {T : Type 0} → Walk → Walk → Option ℕ → List Path → Calls → Calls → Result T WalkAnswer → Told → Type 0
 ListsRest first w stop weak before now (Ok v) t = IsWalkOf w t × ListsMore first w before now
 ListsRest first w stop weak before now (Err answer) t = Answers first.root stop weak answer t

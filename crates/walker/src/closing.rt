@@ -33,13 +33,13 @@ pub fn close_walk<S: Tree>(
     ensures weak_stays { S.may_fail tree.new ≡ S.may_fail tree.old }
     ensures count { HasRisen (S.faults tree.old) (S.faults tree.new) result }
 
-    // The numbers, and which limit is told at the start.
+    // The numbers, and which limit is reported at the start.
     ensures numbers { IsNumbered stop_after result }
     ensures many_at_start { most_dirs < length walked.dirs → result ≡ WalkAnswer.TooMany (most_dirs + 1) }
     ensures stop_at_start { (n : ℕ) → stop_after ≡ Some n → length walked.dirs ≤ most_dirs → n < length walked.files
         → result ≡ WalkAnswer.Stopped (n + 1) }
 
-    // Where the tree tells: what the answer says of it, and which calls were made.
+    // Where the tree shows its contents: what the answer says of it, and which calls were made.
     ensures answer { IfSome (S.tree tree.old) (Answers root.now stop_after (S.may_fail tree.old) result) }
     ensures once { IfSome (S.tree tree.old) (λ t. CallsOnce t walked piece.paths (S.calls tree.old) (S.calls tree.new) result) }
     ensures passed { IfSome (S.tree tree.old) (EndsPassed walked stop_after (S.calls tree.old) (S.calls tree.new) result) }

@@ -15,7 +15,7 @@ pub type Dirs = IndexMap<String, bool>;
 
 pub type Files = Vec<Text>;
 
-// The path without the root and the slash behind it.
+// The path without the root and the slash after it.
 fn name_below<'a>(root: &str, path: &'a str) -> &'a str
     requires { IsBelow root.now path.now }
     ensures { child root.now result.now ≡ path.now }

@@ -40,7 +40,7 @@ pub fn note_in(
     Ok(())
 }
 
-// Room for all that the listing tells. What was found stays.
+// Room for all that the listing reports. What was found stays.
 fn room_for(dirs: &mut Dirs, files: &mut Files, listing: &Listing) -> Result<(), AllocError>
     ensures dirs_stay { dirs.new.entries ≡ dirs.old.entries }
     ensures files_stay { files.new.items ≡ files.old.items }

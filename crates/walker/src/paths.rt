@@ -2,7 +2,7 @@
 ghost use Rattle.std.specs.Prelude.{◌≡◌, ◌≢◌, MatchOption};
 ghost use Rattle.firefly_outside.specs.Trees.{Path, child};
 
-/// The path without the root and the slash behind it, where it begins with them.
+/// The path without the root and the slash after it, where it begins with them.
 pub fn below<'a>(root: &str, path: &'a str) -> Option<&'a str>
     ensures { MatchOption result ((name : Path) → path.now ≢ child root.now name) (λ name. path.now ≡ child root.now name.now) }
 {

@@ -33,7 +33,7 @@ pub record IsBatch (paths skipped lows : List (List ℕ)) : Type 0 where
   pub many : length lows ≡ length paths
   pub short : All IsShort lows
 
--- the path comes behind all of these
+-- the path comes after all of these
 abbrev pub IsAboveAll : List ℕ → List (List ℕ) → Type 0
 IsAboveAll path paths = (p : List ℕ) → Contains paths p → IsBelow p path
 

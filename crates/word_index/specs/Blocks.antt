@@ -1,4 +1,4 @@
--- Lists that lie one behind the other in one block.
+-- Lists that lie one after the other in one block.
 use Rattle.std.specs.Prelude.{◌≡◌, ℕ, ◌≤◌, List, [], ◌∷◌, length}
 use Rattle.std.specs.List.{slice_range}
 

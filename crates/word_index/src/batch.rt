@@ -53,7 +53,7 @@ impl Batch {
         }
     }
 
-    /// Whether a file of this path and so many bytes may come next: its path is behind all others, and there is room.
+    /// Whether a file of this path and so many bytes may come next: its path is after all others, and there is room.
     pub fn takes(&self, path: &str, bytes: usize) -> bool
         ensures { IsTrue result → IsAboveAll path.now self.now.paths }
     {
@@ -139,7 +139,7 @@ fn add_long(batch: Batch, path: &[u8]) -> Result<Batch, AllocError>
     }
 }
 
-// Puts what is kept of a file that is too long behind the others.
+// Appends what is kept of a file that is too long.
 fn put_long(
     paths: &mut Strings,
     skipped: &mut Strings,
@@ -184,7 +184,7 @@ fn add_short(batch: Batch, path: &[u8], bytes: &[u8]) -> Result<Batch, AllocErro
     }
 }
 
-// Puts what is kept of a file of these bytes behind the others.
+// Appends what is kept of a file of these bytes.
 fn put_short(
     paths: &mut Strings,
     lows: &mut Strings,

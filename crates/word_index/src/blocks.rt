@@ -1,4 +1,4 @@
-//! Lists that lie one behind the other in one block.
+//! Lists that lie one after the other in one block.
 ghost use Rattle.std.specs.Prelude.{◌≡◌, ◌<◌, ◌≤◌, ◌++◌, ℕ, [], ◌∷◌, length, take, OnOk, OnErr, slice_index, slice_index_or};
 ghost use Rattle.word_index.specs.Blocks.{parts, AreEnds};
 

@@ -6,7 +6,7 @@ use crate::joining::number_of;
 use crate::rows::Place;
 use std::alloc::AllocError;
 
-/// A place of a word, and behind how many links the place before it ends. Where there is none, that is 0.
+/// A place of a word, and after how many links the place before it ends. If there is none, that is 0.
 #[derive(Clone, Copy)]
 pub struct Link {
     pub place: Place,

@@ -91,7 +91,7 @@ fn add_merged(
     Ok(())
 }
 
-/// The places of one word behind those of the other.
+/// The places of one word, followed by those of the other.
 #[derive(Drop)]
 pub struct Rows {
     places: Vec<Place>,

@@ -33,7 +33,7 @@ fn add_lower(text: &mut Vec<u8>, s: &[u8]) -> Result<(), AllocError>
     Ok(())
 }
 
-/// Byte strings one behind the other.
+/// Byte strings one after the other.
 #[derive(Drop)]
 pub struct Strings {
     text: Vec<u8>,
@@ -85,7 +85,7 @@ impl Strings {
         self.text.len()
     }
 
-    /// The bytes of all, one behind the other.
+    /// The bytes of all, one after the other.
     pub(crate) fn text(&self) -> &[u8] {
         self.text.as_slice()
     }

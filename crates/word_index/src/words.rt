@@ -31,7 +31,7 @@ fn run_end(bytes: &[u8], from: usize) -> usize
     at
 }
 
-/// The first run that begins at or after `from`, which stands on this line behind no byte of a run.
+/// The first run that begins at or after `from`, which stands on this line and follows no byte of a run.
 pub fn next_run(bytes: &[u8], from: usize, line: u32) -> Option<Run>
     requires within { from ≤ length bytes.now }
     requires early { line ≤ from + 1 }

@@ -96,7 +96,7 @@ fn name_longer(bytes: &[u8], at: usize, bound: u32, name: UsualName) -> Option<U
     })
 }
 
-/// The name of one or two digits that stands there with this byte behind it, if it is below the bound.
+/// The name of one or two digits that stands there with this byte after it, if it is below the bound.
 #[inline(always)]
 pub fn name_before(bytes: &[u8], at: usize, bound: u32, stop: u8) -> Option<UsualName>
     requires { at + 3 ≤ length bytes.now }

@@ -14,7 +14,7 @@ pub struct UsualWait {
     pub end: usize,
 }
 
-/// The names of a mutex and a condition that stand there, with this byte behind them.
+/// The names of a mutex and a condition that stand there, with this byte after them.
 #[inline(always)]
 pub fn usual_wait(bytes: &[u8], at: usize, layout: &Layout, stop: u8) -> Option<UsualWait>
     requires { at + 7 ≤ length bytes.now }

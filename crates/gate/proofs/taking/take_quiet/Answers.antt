@@ -13,8 +13,8 @@ loop-preserved g c =
     let tried = c.take_bit_quiet.new.me in
     let lost = c.take_bit_quiet.ensures.lost c.if-take_bit_quiet-eq0.false in
     record {
-      same = goes_on_quietly c.args.me.now at tried c.loop.invariant.same c.stand_in_line.new.me (o ∷ at.failed) (without o tried.failed) (without o at.turns) lost (stood_plainly o tried c.stand_in_line.new.me (ap (λ k. k.stand) lost ∙ (ap (λ k. k.stand) c.loop.invariant.same ∙ c.requires.outside.stand)) c.stand_in_line.ensures.rest (c.stand_in_line.ensures.goes_on (c.stand_in_line.ensures.plain refl)));
-      turns = c.stand_in_line.ensures.turns ∙ (ap (λ k. without o k.turns) lost ∙ (without_twice o at.turns ∙ c.loop.invariant.turns));
+      same = goes_on_quietly c.args.me.now at tried c.loop.invariant.same c.enqueue_and_sleep.new.me (o ∷ at.failed) (without o tried.failed) (without o at.turns) lost (stood_plainly o tried c.enqueue_and_sleep.new.me (ap (λ k. k.stand) lost ∙ (ap (λ k. k.stand) c.loop.invariant.same ∙ c.requires.outside.stand)) c.enqueue_and_sleep.ensures.rest (c.enqueue_and_sleep.ensures.goes_on (c.enqueue_and_sleep.ensures.plain refl)));
+      turns = c.enqueue_and_sleep.ensures.turns ∙ (ap (λ k. without o k.turns) lost ∙ (without_twice o at.turns ∙ c.loop.invariant.turns));
     }
 
 pub returns-then-take_bit_quiet-eq0-clause-rest : goal.returns-then-take_bit_quiet-eq0-clause-rest

@@ -13,8 +13,8 @@ loop-preserved-then-left-eq0 g c =
     let tried = c.try_take.new.me in
     let lost = c.try_take.ensures.lost c.if-try_take.false in
     record {
-      same = goes_on c.args.me.now at tried same c.stand_in_line.new.me (o ∷ at.failed) (without o tried.failed) (without o at.turns) lost (stood_plainly o tried c.stand_in_line.new.me (ap (λ k. k.stand) lost ∙ (ap (λ k. k.stand) same ∙ c.requires.outside.stand)) c.stand_in_line.ensures.rest (c.stand_in_line.ensures.goes_on (c.stand_in_line.ensures.plain refl)));
-      turns = c.stand_in_line.ensures.turns ∙ (ap (λ k. without o k.turns) lost ∙ (without_twice o at.turns ∙ (ap (λ k. without o k.turns) c.look_and_learn-left.ensures ∙ c.loop.invariant.turns)));
+      same = goes_on c.args.me.now at tried same c.enqueue_and_sleep.new.me (o ∷ at.failed) (without o tried.failed) (without o at.turns) lost (stood_plainly o tried c.enqueue_and_sleep.new.me (ap (λ k. k.stand) lost ∙ (ap (λ k. k.stand) same ∙ c.requires.outside.stand)) c.enqueue_and_sleep.ensures.rest (c.enqueue_and_sleep.ensures.goes_on (c.enqueue_and_sleep.ensures.plain refl)));
+      turns = c.enqueue_and_sleep.ensures.turns ∙ (ap (λ k. without o k.turns) lost ∙ (without_twice o at.turns ∙ (ap (λ k. without o k.turns) c.look_and_learn-left.ensures ∙ c.loop.invariant.turns)));
     }
 
 pub loop-preserved : goal.loop-preserved

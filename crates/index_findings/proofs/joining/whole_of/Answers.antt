@@ -3,7 +3,7 @@ use Rattle.std.specs.Vec.Iter.{into_iter_items}
 use Rattle.walker.specs.Pile.{AreApart}
 use Rattle.word_index.specs.Index.{Index}
 use Rattle.index_findings.specs.Pieces.{AreMergedFrom}
-use Rattle.index_findings.proofs.LotLaws.{if_ok_map}
+use Rattle.index_findings.proofs.ReadFileLaws.{if_ok_map}
 use Rattle.index_findings.proofs.PieceLaws.{apart_ahead, merged_ahead, merged_on, merged_same}
 use Rattle.index_findings.proofs.VisitLaws.{none_left}
 use Rattle.index_findings.proofs.joining.whole_of.Goals as goal

@@ -8,12 +8,12 @@ use Rattle.lock_order.proofs.Walks.{is_cycle}
 use Rattle.lock_order.proofs.cycle.cycle_in.Goals as goal
 
 pub returns-then-is_empty : goal.returns-then-is_empty
-returns-then-is_empty c = λ es now kept h. no_cycle c.args.nestings.now c.knot-knot.result h.0 c.knot-knot.ensures.all (c.is_empty.ensures.none (search rules)) (kept_cycle es now c.args.nestings.now h.0 kept h.1)
+returns-then-is_empty c = λ es now kept h. no_cycle c.args.graph.now c.core-core.result h.0 c.core-core.ensures.all (c.is_empty.ensures.none (search rules)) (kept_cycle es now c.args.graph.now h.0 kept h.1)
 
 pub returns : goal.returns
 returns c = λ es now kept.
-    let k = c.args.nestings.now in
+    let k = c.args.graph.now in
     let ms = c.turn.new.circle.items in
-    let cycle = is_cycle k ms (λ m b. not_itself kept.version es now m _ _ kept.run (kept.nested m m b)) c.turn.ensures.circle in
+    let cycle = is_cycle k ms (λ m b. not_itself kept.version es now m _ _ kept.run (kept.edge m m b)) c.turn.ensures.circle in
     let told : c.cycle_of.result ≡ links k ms (first_or 0 ms) = subst (λ l. c.cycle_of.result ≡ links k l (first_or 0 l)) c.as_slice.ensures.value c.cycle_of.ensures in
     subst (TellsCycle es) (sym told) (tells es now k ms kept cycle c.turn.ensures.least)

@@ -1,6 +1,6 @@
 use Rattle.std.proofs.Common.{◌≡◌, ◌+◌, ◌<◌, ◌≤◌, ◌⊎◌, inl, inr, [], ◌∷◌, ◌++◌, length, take, get_or, sym, ap, subst, ◌∙◌, arith, rules}
 use Rattle.std.proofs.lemmas.List.{take_all}
-use Rattle.lock_order.specs.declared.answer.Nested.{Nested}
+use Rattle.lock_order.specs.declared.answer.Edge.{Edge}
 use Rattle.lock_order.specs.Order.{first_or}
 use Rattle.lock_order.specs.Circles.{links}
 use Rattle.lock_order.proofs.Members.{mem-at}
@@ -19,7 +19,7 @@ first-requires-clause-inner c = elim c.if-k-circle.branch [
 
 pub loop-k-preserved : goal.loop-k-preserved
 loop-k-preserved c =
-    let k = c.args.nestings.now in
+    let k = c.args.graph.now in
     let ms = c.args.circle.now in
     let j = c.loop-k.k in
     let inner = c.if-k-circle.inner in
@@ -28,12 +28,12 @@ loop-k-preserved c =
       | else-k-circle w ↦ inr (w.if-k-circle.false, w.inner-is)
     ]
     in
-    c.push.ensures ∙ ap (λ l. l ++ c.first.result ∷ []) c.loop-k.invariant ∙ ap (λ (n : Nested). take j (links k ms (first_or 0 ms)) ++ n ∷ []) c.first.ensures
+    c.push.ensures ∙ ap (λ l. l ++ c.first.result ∷ []) c.loop-k.invariant ∙ ap (λ (n : Edge). take j (links k ms (first_or 0 ms)) ++ n ∷ []) c.first.ensures
     ∙ sym (links_more k ms j inner (search rules) next)
 
 pub returns : goal.returns
 returns c =
     let ms = c.args.circle.now in
-    let all = links c.args.nestings.now ms (first_or 0 ms) in
-    let many = length-links c.args.nestings.now ms (first_or 0 ms) in
+    let all = links c.args.graph.now ms (first_or 0 ms) in
+    let many = length-links c.args.graph.now ms (first_or 0 ms) in
     c.loop-k.invariant ∙ take_all c.loop-k.k all (omega (arith, many))

@@ -6,7 +6,7 @@ use Rattle.lock_order.proofs.cycle.turn.Goals as goal
 
 pub loop-init : goal.loop-init
 loop-init c =
-    let k = c.args.nestings.now in
+    let k = c.args.graph.now in
     let ms = c.args.circle.now.items in
     let n = c.place_of_least-turns.result in
     let all : n - 0 ≡ n = omega arith in
@@ -20,7 +20,7 @@ push-requires c =
 
 pub loop-preserved : goal.loop-preserved
 loop-preserved c =
-    let k = c.args.nestings.now in
+    let k = c.args.graph.now in
     let ms = c.loop.circle.items in
     let m = c.remove-m.result in
     let left = c.place_of_least-turns.result - (c.loop.counter + 1) in
@@ -30,7 +30,7 @@ loop-preserved c =
 
 pub returns : goal.returns
 returns c =
-    let k = c.args.nestings.now in
+    let k = c.args.graph.now in
     let ms = c.loop.circle.items in
     let none_left : c.place_of_least-turns.result - c.loop.counter ≡ 0 = omega arith in
     record { circle = c.loop.invariant.circle; least = turned_whole k ms (subst (IsTurning k ms) none_left c.loop.invariant) }

@@ -9,7 +9,7 @@ pub loop-k-init : goal.loop-k-init
 loop-k-init c = record { text = sym (append-nil (take c.args.at c.args.buf.now)); near = omega arith }
 
 pub add_ring_if-last-requires-clause-few : goal.add_ring_if-last-requires-clause-few
-add_ring_if-last-requires-clause-few c = one_near _ c.args.cycle.now c.loop-k.k c.at-nested.result (omega (arith, c.len-k-end.ensures.count)) c.at-nested.ensures c.requires.few
+add_ring_if-last-requires-clause-few c = one_near _ c.args.cycle.now c.loop-k.k c.at-edge.result (omega (arith, c.len-k-end.ensures.count)) c.at-edge.ensures c.requires.few
 
 pub loop-k-preserved : goal.loop-k-preserved
 loop-k-preserved c =
@@ -17,6 +17,6 @@ loop-k-preserved c =
     let ns = c.args.cycle.now in
     let old = take c.args.at c.args.buf.now in
     record {
-      text = added_more old (take c.loop-k.last c.loop-k.buf) _ (flat_map f (take c.loop-k.k ns)) (f c.at-nested.result) (flat_map f (take (c.loop-k.k + 1) ns)) c.loop-k.invariant.text c.add_ring_if-last.ensures.text (texts_more f ns c.loop-k.k c.at-nested.result (omega (arith, c.len-k-end.ensures.count)) c.at-nested.ensures);
+      text = added_more old (take c.loop-k.last c.loop-k.buf) _ (flat_map f (take c.loop-k.k ns)) (f c.at-edge.result) (flat_map f (take (c.loop-k.k + 1) ns)) c.loop-k.invariant.text c.add_ring_if-last.ensures.text (texts_more f ns c.loop-k.k c.at-edge.result (omega (arith, c.len-k-end.ensures.count)) c.at-edge.ensures);
       near = omega (arith, c.loop-k.invariant.near, c.add_ring_if-last.ensures.near);
     }

@@ -6,4 +6,4 @@ note-requires c = let n = c.requires.4 in has_place _ _ n.lawful n.names
 
 pub returns-then-self-clause-kept : goal.returns-then-self-clause-kept
 returns-then-self-clause-kept c = λ first l es kept next.
-    (kept.0, nested_goes first.nestings l es _ _ _ _ _ kept.1 next (λ on. c.note.ensures))
+    (kept.0, nested_goes first.graph l es _ _ _ _ _ kept.1 next (λ on. c.note.ensures))

@@ -1,5 +1,0 @@
-use Rattle.lock_order.proofs.Peeling.{IsKnotBelow}
-use Rattle.lock_order.proofs.knot.foremost.Given as goal
-
-abbrev pub invariant-loop-k : goal.invariant-loop-k
-invariant-loop-k l = IsKnotBelow l.k l.nestings l.rest

@@ -1,5 +1,0 @@
-use Rattle.lock_order.proofs.Tables.{starts}
-use Rattle.lock_order.proofs.nestings.Nestings.new.Goals as goal
-
-pub returns : goal.returns
-returns c = λ v. starts c.empty-none.result c.empty-none.ensures v
