@@ -1,5 +1,5 @@
 //! A scene as plain lists.
-mod first;
+pub(crate) mod first;
 mod parts;
 mod rows;
 
