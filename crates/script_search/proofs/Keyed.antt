@@ -88,10 +88,10 @@ pub alone : (f g : Found) (l : Layout) (m : Moment) (limit : ℕ) → moments_of
 alone f g l m limit none parents layout is keyed adds = elim adds [
   | inl there ↦ absurd (none_there there.0.0 (key_of m) (subst (λ (ms : List Moment). slice_get (map key_of ms) there.0.0 ≡ Some (key_of m)) none there.0.1))
   | inr new ↦ record {
-      keyed = keyed;
-      moments = new.1.moments ∙ ap (λ (ms : List Moment). ms ++ m ∷ []) none;
-      parents = new.1.parents ∙ ap (λ (ps : List ℕ). ps ++ 0 ∷ []) parents;
-      layout_is = new.1.layout ∙ layout;
-      limit_is = new.1.limit ∙ is;
-    }
+    keyed = keyed;
+    moments = new.1.moments ∙ ap (λ (ms : List Moment). ms ++ m ∷ []) none;
+    parents = new.1.parents ∙ ap (λ (ps : List ℕ). ps ++ 0 ∷ []) parents;
+    layout_is = new.1.layout ∙ layout;
+    limit_is = new.1.limit ∙ is;
+  }
 ]

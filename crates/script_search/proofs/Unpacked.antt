@@ -80,11 +80,11 @@ module _ {X : Type 0} (cells : X → List ℕ) (read : List ℕ → X × List �
 -- a board is had back from its bytes
 pub moment_back : (l : Layout) (m : Moment) → IsBoard l m → moment_in l (key_of m) ≡ m
 moment_back l m b =
-    let hs = flat_map holder_cells m.holders in
-    let as = flat_map available_cells m.available in
-    let threads = ap (read_all read_thread l.threads) (append_assoc (flat_map thread_cells m.threads) hs as) ∙ so_many_back thread_cells read_thread thread_back l.threads m.threads (hs ++ as) b.threads in
-    let holders = so_many_back holder_cells read_holder holder_back l.mutexes m.holders as b.holders in
-    let available = ap (read_all read_available l.semaphores) (sym (append-nil as)) ∙ so_many_back available_cells read_available available_back l.semaphores m.available [] b.available in
+    let held = flat_map holder_cells m.holders in
+    let last = flat_map available_cells m.available in
+    let threads = ap (read_all read_thread l.threads) (append_assoc (flat_map thread_cells m.threads) held last) ∙ so_many_back thread_cells read_thread thread_back l.threads m.threads (held ++ last) b.threads in
+    let holders = so_many_back holder_cells read_holder holder_back l.mutexes m.holders last b.holders in
+    let available = ap (read_all read_available l.semaphores) (sym (append-nil last)) ∙ so_many_back available_cells read_available available_back l.semaphores m.available [] b.available in
     let v = sym b.version in
     ap (with_threads l) threads
     ∙ (ap (with_holders l m.threads) holders
@@ -102,16 +102,19 @@ module _ {X : Type 0} (read : List ℕ → X × List ℕ) (n : ℕ) (bytes : Lis
   at_left : List X → List ℕ → ℕ → List X × List ℕ
   at_left items rest k = (items ++ (read_all read k rest).0, (read_all read k rest).1)
 
-  pub read_first : HasRead read n bytes 0 [] bytes
+  pub read_first : (items : List X) → items ≡ [] → HasRead read n bytes 0 items bytes
   unfolding at_left
-  read_first = let e : n - 0 ≡ n = omega arith in ap (at_left [] bytes) e
+  read_first items none =
+      let e : n - 0 ≡ n = omega arith in
+      ap (λ (l : List X). at_left l bytes (n - 0)) none ∙ ap (at_left [] bytes) e
 
-  pub read_more : (k : ℕ) (items : List X) (x : X) (rest after : List ℕ) → k < n → (x, after) ≡ read rest → HasRead read n bytes k items rest → HasRead read n bytes (k + 1) (items ++ x ∷ []) after
+  pub read_more : (k : ℕ) (items more : List X) (x : X) (rest after : List ℕ) → k < n → (x, after) ≡ read rest → more ≡ items ++ x ∷ [] → HasRead read n bytes k items rest
+      → HasRead read n bytes (k + 1) more after
   unfolding at_left
-  read_more k items x rest after low is old =
+  read_more k items more x rest after low is now old =
       let j = n - (k + 1) in
       let e : suc j ≡ n - k = omega (arith, low) in
-      let rear = append_assoc items (x ∷ []) (read_all read j after).0 in
+      let rear = ap (λ (l : List X). l ++ (read_all read j after).0) now ∙ append_assoc items (x ∷ []) (read_all read j after).0 in
       (λ i. (rear i, (read_all read j after).1))
       ∙ (ap (λ (q : X × List ℕ). (items ++ q.0 ∷ (read_all read j q.1).0, (read_all read j q.1).1)) is
       ∙ (ap (at_left items rest) e ∙ old))

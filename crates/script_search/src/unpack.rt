@@ -57,9 +57,17 @@ fn waiting_place(tag: u8, mutex: u32, cond: u32) -> Place
 {
     let inside = tag == 3 || tag == 5;
     if tag == 3 || tag == 4 {
-        Place::Waiting { mutex, cond, inside }
+        Place::Waiting {
+            mutex,
+            cond,
+            inside,
+        }
     } else {
-        Place::AlertWaiting { mutex, cond, inside }
+        Place::AlertWaiting {
+            mutex,
+            cond,
+            inside,
+        }
     }
 }
 
