@@ -26,17 +26,17 @@ returns-then-len-self-clause-full c = λ _.
 
 pub push-requires-clause-absent : goal.push-requires-clause-absent
 push-requires-clause-absent c = λ there. absent_there c.in_ok-key.key.items c.args.self.now.keys.keys (sym c.contains.ensures ∙ c.if-contains.false)
-    (subst (λ (k : List ℕ). IsThere (keys_of c.args.self.now) k) c.in_ok-from_slice.ensures there)
+    (subst (λ (k : List ℕ). IsThere (keys_of c.args.self.now) k) (c.in_ok-from_slice.ensures.items ∙ c.as_slice.ensures.value) there)
 
 pub push-requires-clause-key : goal.push-requires-clause-key
 push-requires-clause-key c =
-    let is = c.in_ok-from_slice.ensures ∙ c.in_ok-key.ensures in
+    let is = c.in_ok-from_slice.ensures.items ∙ (c.as_slice.ensures.value ∙ c.in_ok-key.ensures) in
     ap (λ (k : List ℕ). key_of (moment_in c.args.self.now.layout k)) is ∙ (ap key_of (moment_back c.args.self.now.layout (moment_of c.args.board.now) c.requires.board) ∙ sym is)
 
 pub returns-clause-ok : goal.returns-clause-ok
 returns-clause-ok c =
     let f = c.args.self.now in
-    let is = c.in_ok-from_slice.ensures ∙ c.in_ok-key.ensures in
+    let is = c.in_ok-from_slice.ensures.items ∙ (c.as_slice.ensures.value ∙ c.in_ok-key.ensures) in
     let back = ap (moment_in f.layout) is ∙ moment_back f.layout (moment_of c.args.board.now) c.requires.board in
     inr (
       (λ there. absent_there c.in_ok-key.key.items f.keys.keys (sym c.contains.ensures ∙ c.if-contains.false)
