@@ -2,8 +2,8 @@
 //!
 //! Promises: `explore` says that a script ends only where each play of it is whole or can go on. Where it gives events, these are a play
 //! that isn't whole and can't go on. Where it stops at a limit, more scenes than that are reached by plays.
-//! Stands on script_plays, whose definitions know no search, and on indexmap. The boards found, which are kept as bytes, are also the queue of
-//! those to be looked at.
+//! Stands on script_plays, whose definitions know no search, and on indexmap. The boards found, which are kept as bytes, are also the queue
+//! of those to be looked at.
 #![tactic(auto)]
 
 mod board;
