@@ -8,8 +8,8 @@
 
 mod outcome;
 mod sem;
-mod waiting;
+mod wait;
 
 pub use outcome::Outcome;
 pub use sem::alert_p;
-pub use waiting::alert_wait;
+pub use wait::alert_wait;

@@ -61,10 +61,10 @@ gave_after m c k a b e same was gave =
 -- the thread woke all others and gave the mutex back
 pub woke_after : (m c : ℕ) (a b e : RoundThread) → IsSame a b → Adds [] (event a.number (broadcast_action c [])) a b → Adds [] (release_event b.number m) b e
     → Adds (event a.number (broadcast_action c []) ∷ []) (release_event a.number m) a e
-woke_after m c a b e same told gave =
+woke_after m c a b e same recorded gave =
     let t = a.number in
     let wake = event t (broadcast_action c []) in
-    adds_on (wake ∷ []) [] (release_event t m) a b e (added [] wake a b told) (subst (λ n. Adds [] (release_event n m) b e) same.number gave)
+    adds_on (wake ∷ []) [] (release_event t m) a b e (added [] wake a b recorded) (subst (λ n. Adds [] (release_event n m) b e) same.number gave)
 
 -- a thread at the bar that has left as often as it has arrived is in the bar's round
 pub at_round : (w : RoundWorld) (t : ℕ) (x : Cell) (s : RoundShare) → KnowsBar w x s → MayArrive t s → s.arrivals ≡ round_of x

@@ -385,11 +385,11 @@ party_next round t s h is =
 
 party_leaves : (round t : ℕ) (s : RoundShare) → IsParty round t s → s.left + 1 ≡ s.arrivals → s.arrivals ≤ round
     → IsParty round t (record s { left = s.left + 1 })
-party_leaves round t s h behind over = record {
+party_leaves round t s h following over = record {
   arrivals = h.arrivals;
   few = h.few;
   left = omega arith;
-  leaves = inl behind;
+  leaves = inl following;
   odd = h.odd;
   even = λ j e. ⊎_elim
       (λ (a : s.added ≡ j * (t + 1)). inl a)
@@ -467,7 +467,7 @@ module _ (w : RoundWorld) (values : List Cell) (shares : List RoundShare) (h : A
   after_leave o =
       let is : x ≡ Bar h.round h.arrived = same_at values m w.at.bar.0 x _ at o.mutex h.bar in
       let over : s.arrivals ≤ h.round = subst (λ c. s.arrivals ≤ round_of c) is o.over in
-      let own = party_leaves h.round t s (h.each t s there) o.behind over in
+      let own = party_leaves h.round t s (h.each t s there) o.following over in
       let arrivals : r.arrivals ≡ s.arrivals = ap (λ (u : RoundShare). u.arrivals) o.share in
       let sum = arrivals_set (h.round + 1) shares t s r there in
       let same : has (h.round + 1) r ≡ has (h.round + 1) s = ap (λ k. cond (eqb k (h.round + 1)) 1 0) arrivals in

@@ -152,7 +152,7 @@ pub record IsLast (w : RoundWorld) (m t : ℕ) (x y : Cell) (s r : RoundShare) :
 -- the thread leaves, once the round in which it has arrived is over
 pub record IsLeave (w : RoundWorld) (m : ℕ) (x y : Cell) (s r : RoundShare) : Type 0 where
   pub mutex : m ≡ w.at.bar.0
-  pub behind : s.left + 1 ≡ s.arrivals
+  pub following : s.left + 1 ≡ s.arrivals
   pub over : s.arrivals ≤ round_of x
   pub now : y ≡ x
   pub share : r ≡ record s { left = s.left + 1 }

@@ -15,7 +15,7 @@ use Rattle.bench_workloads.specs.Workloads.{HasRaised, IsInside, StaysInside, Wo
 raises-append : (xs ys : List Event) → raises (xs ++ ys) ≡ raises xs + raises ys
 raises-append xs ys = sum_by-append (λ (e : Event). cond (is_raise e.action) 1 0) xs ys
 
--- who has made no call has no wait behind it
+-- who has made no call has no wait after it
 pub none_raised : (es : List Event) → length es ≡ 0 → raises es ≡ 0
 none_raised [] none = refl
 none_raised (e ∷ es) none = absurd (omega arith)

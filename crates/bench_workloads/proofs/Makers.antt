@@ -16,7 +16,7 @@ use Rattle.nub_rule.proofs.Each.{at_below}
 use Rattle.nub.specs.Ended.{KeepsLocks}
 use Rattle.nub.specs.Totals.{total}
 use Rattle.nub.proofs.Totals.{sum_said}
-use Rattle.nub.proofs.Users.{all_told, share_count}
+use Rattle.nub.proofs.Users.{all_recorded, share_count}
 use Rattle.bounded_buffer.specs.declared.note.Note.{Note}
 use Rattle.bounded_buffer.specs.Parts.{Used}
 use Rattle.bounded_buffer.specs.Plain.{BufferRule, Keeps, part_of, pairs_of, all_puts, all_takes}
@@ -65,7 +65,7 @@ module _ (makers times : ℕ) (sums : List ℕ) (values : List (Held ℕ)) (shar
       let here : last.0 < put_count e = All-head (λ p. p.0 < put_count e) (last.0, k) [] all in
       let place = last.2 in
       let count = puts-count 1 e shares (kept 1 e at_e) in
-      let few = fewer (λ (v : List (Note ℕ)). length (part_of v 1).puts) makers j shares (λ i v at_v. (each i v at_v).2.once) (λ i v at_v high. ap length ((each i v at_v).2.takes high).told)
+      let few = fewer (λ (v : List (Note ℕ)). length (part_of v 1).puts) makers j shares (λ i v at_v. (each i v at_v).2.once) (λ i v at_v high. ap length ((each i v at_v).2.takes high).recorded)
       (λ v at_v. ap (λ (w : List (Note ℕ)). length (part_of w 1).puts) (some-injective v s (sym at_v ∙ at)) ∙ ap length untold) low in
       omega arith
 
@@ -74,7 +74,7 @@ module _ (makers times : ℕ) (sums : List ℕ) (values : List (Held ℕ)) (shar
   made j s at low = ⊎_elim
       (λ (m : IsRow (j * times) times (part_of s 0).puts). m)
       (λ (r : WasRefused (said s)). absurd (⊎_elim
-      (never_shut 0 q shares (λ k u at_u. false_from_ne_true (part_of u 0).shut (nobody_last j s at low r.told k u at_u)) (kept 0 q at_q) j s at)
+      (never_shut 0 q shares (λ k u at_u. false_from_ne_true (part_of u 0).shut (nobody_last j s at low r.recorded k u at_u)) (kept 0 q at_q) j s at)
       (never_shut 1 e shares (λ k u at_u. (each k u at_u).2.opened) (kept 1 e at_e) j s at)
       r.seen))
       ((each j s at).2.makes low)
@@ -114,7 +114,7 @@ closes makers times p threads sums values locks some_taker long two passed =
     let shares = locks.shares in
     let as_many = share_count threads shares locks.each_share in
     let P : ℕ → List (Note ℕ) → Type 0 = λ n s. (left : ℕ) × (get_elem? sums n ≡ some left) × HasEnded makers times n left (said s) in
-    let each = all_told P threads shares locks.each_share (λ n t at.
+    let each = all_recorded P threads shares locks.each_share (λ n t at.
     let h = passed n t at in
     let x = h.2.0 in
     let done = h.2.1 in

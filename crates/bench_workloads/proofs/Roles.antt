@@ -8,7 +8,7 @@ use lib.ListN.{get_elem?}
 use Rattle.nub_rule.specs.Items.{Each}
 use Rattle.nub.specs.Ended.{KeepsLocks}
 use Rattle.nub.proofs.Totals.{sum_said, total_most}
-use Rattle.nub.proofs.Users.{all_told}
+use Rattle.nub.proofs.Users.{all_recorded}
 use Rattle.readers_writers.specs.declared.role.Role.{Role}
 use Rattle.readers_writers.specs.declared.role.Role.TheVariants.{Idle, Reading, Writing}
 use Rattle.readers_writers.specs.declared.role.RoleChange.{RoleChange}
@@ -54,7 +54,7 @@ pub left_free : (readers times : ℕ) (threads : List Player) (values : List RwS
     → length values ≡ 1 → values ≡ record { readers = 0; writer = None } ∷ []
 left_free readers times threads [] kept played long = absurd (omega arith)
 left_free readers times threads (q ∷ []) kept played long =
-    ap (λ v. v ∷ []) (all_idle q kept.shares (kept.kept.each 0 q refl) (all_told (λ k u. role_of u 0 ≡ Idle) threads kept.shares kept.each_share
+    ap (λ v. v ∷ []) (all_idle q kept.shares (kept.kept.each 0 q refl) (all_recorded (λ k u. role_of u 0 ≡ Idle) threads kept.shares kept.each_share
     (λ n t at. let p = played n t at in (p.0, p.1, idle_after (role_by readers n) times p.0 p.2))))
 left_free readers times threads (q ∷ p ∷ values) kept played long = absurd (omega arith)
 

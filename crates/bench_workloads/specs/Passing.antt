@@ -40,13 +40,13 @@ pub record IsRow (first many : ℕ) (ps : List (ℕ × ℕ)) : Type 0 where
 
 -- a maker saw a buffer shut before it could report its end
 pub record WasRefused (x : Both) : Type 0 where
-  pub told : x.ends.puts ≡ []
+  pub recorded : x.ends.puts ≡ []
   pub seen : (x.numbers.seen_shut ≡ true) ⊎ (x.ends.seen_shut ≡ true)
 
 -- a taker has put nothing, and has seen the buffer of numbers shut and empty
 pub record IsTaker (x : Both) : Type 0 where
   pub puts : x.numbers.puts ≡ []
-  pub told : x.ends.puts ≡ []
+  pub recorded : x.ends.puts ≡ []
   pub end : x.numbers.seen_end ≡ true
 
 -- the thread n has done its part, with this sum, modulo 2^64, of what it has taken: each of the

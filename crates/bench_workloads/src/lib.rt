@@ -7,22 +7,22 @@
 //! crate.
 #![tactic(auto)]
 
-mod adding;
-mod calling;
+mod additions;
+mod alert_waits;
+mod alternation;
+mod buffers;
+mod calls;
 mod numbers;
 mod parts;
-mod passing;
-mod playing;
-mod reading;
+mod readers;
 mod rounds;
-mod turning;
-mod waking;
+mod semaphores;
 
-pub use adding::{Added, add_at_once};
-pub use calling::call_alone;
+pub use additions::{Added, add_at_once};
+pub use alert_waits::{Woken, alert_at_once};
+pub use alternation::{Play, play_at_once};
+pub use buffers::{Numbers, Passed, pass_at_once};
+pub use calls::call_alone;
 pub use numbers::{Capacity, Count, Sides};
-pub use passing::{Numbers, Passed, pass_at_once};
-pub use playing::{Play, play_at_once};
-pub use reading::{Pair, Played, read_at_once};
-pub use turning::{Turned, turn_at_once};
-pub use waking::{Woken, alert_at_once};
+pub use readers::{Pair, Played, read_at_once};
+pub use semaphores::{Turned, turn_at_once};

@@ -5,12 +5,12 @@ ghost use Rattle.nub.specs.Ended.{IsFirst};
 ghost use Rattle.bench_workloads.specs.Parts.{HasDonePart, HasRun, begun, is_pass};
 ghost use Rattle.bench_workloads.specs.Workloads.{HasMade, HasObjects, HasWorked};
 
-use crate::adding::add_many;
-use crate::calling::call_many;
+use crate::additions::add_many;
+use crate::alert_waits::wake;
+use crate::alternation::{Play, take_turns};
+use crate::calls::call_many;
 use crate::numbers::Count;
-use crate::playing::{Play, take_turns};
-use crate::turning::turn;
-use crate::waking::wake;
+use crate::semaphores::turn;
 use bin_semaphore::p;
 use nub::{Closed, Layout, Package, SemId, Thread, close_package, open_package};
 use package_crew::at_once;

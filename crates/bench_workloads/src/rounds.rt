@@ -3,9 +3,9 @@ ghost use Rattle.std.specs.Prelude.{◌<◌, ◌+◌, ℕ, true};
 ghost use Rattle.bench_workloads.specs.Rounds.{HasHeld, alerts_in};
 ghost use Rattle.bench_workloads.specs.Workloads.{HasMade, HasObjects, HasWorked, IsInside, StaysInside};
 
-use crate::calling::call;
+use crate::alert_waits::wait_for_alert;
+use crate::calls::call;
 use crate::numbers::Count;
-use crate::waking::wait_for_alert;
 use condition::wait;
 use nub::{CondId, MutexId, Package, Thread};
 use std::sync::Wait;

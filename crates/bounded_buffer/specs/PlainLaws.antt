@@ -183,7 +183,7 @@ module _ {T : Type 0} where
   -- the item at the place k of the log, and the items after it
   record IsNext (k : ℕ) (log : List T) (i : T) (rest : List T) : Type 0 where
     within : k < length log
-    behind : drop (suc k) log ≡ rest
+    following : drop (suc k) log ≡ rest
     before : take (suc k) log ≡ take k log ++ i ∷ []
     long : length (take k log) ≡ k
 
@@ -193,12 +193,12 @@ module _ {T : Type 0} where
   is-next zero (x ∷ log) i rest e =
       let head : x ≡ i = cc in
       let tail : log ≡ rest = cc in
-      record { within = omega arith; behind = tail; before = ap (λ y. y ∷ []) head; long = refl }
+      record { within = omega arith; following = tail; before = ap (λ y. y ∷ []) head; long = refl }
   is-next (suc k) (x ∷ log) i rest e =
       let n = is-next k log i rest e in
       let low = n.within in
       let long = n.long in
-      record { within = omega arith; behind = n.behind; before = ap (λ l. x ∷ l) n.before; long = omega arith }
+      record { within = omega arith; following = n.following; before = ap (λ l. x ∷ l) n.before; long = omega arith }
 
   -- the first item is taken
   rule_take : (m : ℕ) (q : Held T) (shares : List (List (Note T))) (t : ℕ) (s r : List (Note T)) (i : T) (rest : List T)
@@ -219,7 +219,7 @@ module _ {T : Type 0} where
             subst (λ l. IsPermutation (all_takes m (slice_set shares t r)) (enumerate_from 0 l))
             (sym (ap (λ j. take j h.log) (add-one q.taken) ∙ next.before)) more;
         taken = omega arith;
-        left = sym (ap (λ j. drop j h.log) (add-one q.taken) ∙ next.behind);
+        left = sym (ap (λ j. drop j h.log) (add-one q.taken) ∙ next.following);
         room = let a = ap length first in let b = h.room in omega arith;
         shut = h.shut ∙ sym (any_same m shares t s r at (ap (λ u. u.shut) here));
         seen_shut = marks_set (λ u. u.seen_shut) m shares t r h.seen_shut
@@ -342,8 +342,8 @@ module _ {T : Type 0} where
   is_put : (P : T → Type 0) (d : Did T) (x y : Held T) → Does d x y → IsOfPut P d → put_did x y ≡ d
   is_put P (Put n i) x y does of =
       let last : y.items ≡ x.items ++ i ∷ [] = ap (λ (v : Held T). v.items) does.3 in
-      let behind : drop (length x.items) y.items ≡ i ∷ [] = ap (drop (length x.items)) last ∙ drop-append_seam x.items (i ∷ []) in
-      ap (put_by x) behind ∙ ap (λ k. Put k i) (sym does.2)
+      let following : drop (length x.items) y.items ≡ i ∷ [] = ap (drop (length x.items)) last ∙ drop-append_seam x.items (i ∷ []) in
+      ap (put_by x) following ∙ ap (λ k. Put k i) (sym does.2)
   is_put P (Took n i) x y does of = absurd of
   is_put P Shut x y does of = absurd of
   is_put P SawShut x y does of = ap (put_by x) (ap (λ (v : Held T). drop (length x.items) v.items) does.1 ∙ drop-length x.items)

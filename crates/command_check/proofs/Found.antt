@@ -36,10 +36,10 @@ pub illegal_read : (place : ℕ) (why : Broken) → verdict.Illegal place why �
 illegal_read place why e = cc
 
 -- a verdict on an input that can't be read, with its status and its message
-pub told_answers : (input out notes : Change) (v : Verdict) (answer : Status) → ((s : Summary) → v ≢ verdict.Legal s) → ((place : ℕ) (why : Broken) → v ≢ verdict.Illegal place why) → Finds input v
+pub reported_answers : (input out notes : Change) (v : Verdict) (answer : Status) → ((s : Summary) → v ≢ verdict.Legal s) → ((place : ℕ) (why : Broken) → v ≢ verdict.Illegal place why) → Finds input v
     → IsStill out → NotesFor notes v → answer ≡ status_of v → CheckAnswers input out notes answer
-told_answers input out notes (verdict.Legal s) answer legal illegal found still said is = absurd (legal s refl)
-told_answers input out notes (verdict.Illegal place why) answer legal illegal found still said is = absurd (illegal place why refl)
-told_answers input out notes (verdict.BadLine k) answer legal illegal found still said is = subst (λ (a : Status). CheckAnswers input out notes a) (sym is) (k, found, still, said)
-told_answers input out notes verdict.TooLong answer legal illegal found still said is = subst (λ (a : Status). CheckAnswers input out notes a) (sym is) (found, still, said)
-told_answers input out notes verdict.ReadFault answer legal illegal found still said is = subst (λ (a : Status). CheckAnswers input out notes a) (sym is) (found, still, said)
+reported_answers input out notes (verdict.Legal s) answer legal illegal found still said is = absurd (legal s refl)
+reported_answers input out notes (verdict.Illegal place why) answer legal illegal found still said is = absurd (illegal place why refl)
+reported_answers input out notes (verdict.BadLine k) answer legal illegal found still said is = subst (λ (a : Status). CheckAnswers input out notes a) (sym is) (k, found, still, said)
+reported_answers input out notes verdict.TooLong answer legal illegal found still said is = subst (λ (a : Status). CheckAnswers input out notes a) (sym is) (found, still, said)
+reported_answers input out notes verdict.ReadFault answer legal illegal found still said is = subst (λ (a : Status). CheckAnswers input out notes a) (sym is) (found, still, said)

@@ -1,7 +1,7 @@
 //! The command `check`.
 ghost use Rattle.command_endings.specs.Changes.{change_of};
 ghost use Rattle.command_check.specs.Check.{CheckAnswers};
-ghost use Rattle.command_endings.specs.Endings.{TellsFault};
+ghost use Rattle.command_endings.specs.Endings.{ReportsFault};
 ghost use Rattle.command_check.specs.VerdictEndings.{Found};
 
 use crate::verdict_ending::{CHECK_BUDGET, ends_by};
@@ -18,7 +18,7 @@ pub fn run_check<I: Source, O: Sink, N: Sink>(input: &mut I, out: &mut O, notes:
     ensures answers { CheckAnswers (change_of I.left I.faults input.old input.new) (change_of O.held O.faults out.old out.new)
         (change_of N.held N.faults notes.old notes.new) result }
     ensures exact { Found (change_of I.left I.faults input.old input.new) result }
-    ensures told { TellsFault (change_of I.left I.faults input.old input.new) result }
+    ensures reported { ReportsFault (change_of I.left I.faults input.old input.new) result }
 {
     match check(input, CHECK_BUDGET) {
         Verdict::Legal(summary) => print(legal(&summary).as_str(), Status::Done, out, notes),

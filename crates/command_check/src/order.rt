@@ -1,6 +1,6 @@
 //! The command `order`.
 ghost use Rattle.command_endings.specs.Changes.{change_of};
-ghost use Rattle.command_endings.specs.Endings.{TellsFault};
+ghost use Rattle.command_endings.specs.Endings.{ReportsFault};
 ghost use Rattle.command_check.specs.Order.{OrderAnswers, Ordered};
 
 use crate::order_lines::{lines_of, no_cycle};
@@ -15,7 +15,7 @@ pub fn run_order<I: Source, O: Sink, N: Sink>(input: &mut I, out: &mut O, notes:
     ensures answers { OrderAnswers (change_of I.left I.faults input.old input.new) (change_of O.held O.faults out.old out.new)
         (change_of N.held N.faults notes.old notes.new) result }
     ensures exact { Ordered (change_of I.left I.faults input.old input.new) result }
-    ensures told { TellsFault (change_of I.left I.faults input.old input.new) result }
+    ensures reported { ReportsFault (change_of I.left I.faults input.old input.new) result }
 {
     match lock_order(input, CHECK_BUDGET) {
         OrderAnswer::NoCycle(events) => print(no_cycle(events).as_str(), Status::Done, out, notes),

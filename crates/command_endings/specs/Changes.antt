@@ -12,7 +12,7 @@ pub record Change : Type 0 where
   pub now : ℕ
 
 abbrev pub change_of : {X : Type 0} → (X → Option (List ℕ)) → (X → ℕ) → X → X → Change
-change_of told faults old new = record { old = told old; new = told new; before = faults old; now = faults new }
+change_of reported faults old new = record { old = reported old; new = reported new; before = faults old; now = faults new }
 
 -- the object is as it was
 abbrev pub IsStill : Change → Type 0

@@ -45,5 +45,5 @@ abbrev pub SaysFault : TextFault → Change → Status → Type 0
 SaysFault fault notes status = (status ≡ status_of (ending_of fault)) × Notes notes (message_of (ending_of fault))
 
 -- A failed read is reported: the input's count of faults rises only where the status says so.
-abbrev pub TellsFault : Change → Status → Type 0
-TellsFault input status = status ≢ ReadFault → input.now ≡ input.before
+abbrev pub ReportsFault : Change → Status → Type 0
+ReportsFault input status = status ≢ ReadFault → input.now ≡ input.before

@@ -10,10 +10,10 @@
 
 mod ending;
 mod message;
-mod printing;
 mod status;
+mod whole_answer;
 
 pub use ending::{Ending, ends, ends_unread};
 pub use message::say;
-pub use printing::print;
 pub use status::{Status, number};
+pub use whole_answer::print;

@@ -47,7 +47,7 @@ pub fn say_bad_line<N: Sink>(notes: &mut N, line: u64)
 }
 
 // The message on a stop.
-fn stopped(found: u64, allowed: u64) -> ArrayString<128>
+fn stop_message(found: u64, allowed: u64) -> ArrayString<128>
     ensures { result.bytes ≡ stopped_message found allowed }
 {
     let mut message = ArrayString::<128>::new();
@@ -61,7 +61,7 @@ fn stopped(found: u64, allowed: u64) -> ArrayString<128>
 pub fn say_stopped<N: Sink>(notes: &mut N, found: u64, allowed: u64)
     ensures { Notes (change_of N.held N.faults notes.old notes.new) (stopped_message found allowed) }
 {
-    say(notes, stopped(found, allowed).as_str());
+    say(notes, stop_message(found, allowed).as_str());
 }
 
 // The message on a stop by a job.

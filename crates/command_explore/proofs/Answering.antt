@@ -21,7 +21,7 @@ use Rattle.command_explore.specs.declared.stuck.ExploreStatus.{ExploreStatus}
 use Rattle.command_explore.specs.declared.stuck.ExploreStatus.TheVariants.{Stuck, As}
 use Rattle.command_explore.specs.Messages.{ends_line}
 use Rattle.command_explore.specs.Waits.{stuck_text}
-use Rattle.command_explore.specs.Explore.{Answers, Explores, GetsStuck, IsPrinted, Own, TellsFault, trace_of}
+use Rattle.command_explore.specs.Explore.{Answers, Explores, GetsStuck, IsPrinted, Own, ReportsFault, trace_of}
 
 module _ (limit : ℕ) (l : Layout) (xs : List Line) (out notes : Change) where
   pub no_memory : (status : Status) → status ≡ Memory → IsStill out → Notes notes memory_message → Explores limit l xs out notes (As status)
@@ -83,7 +83,7 @@ refused_answers limit input out notes script.TooLong status why still said = sub
 refused_answers limit input out notes script.Read status why still said = subst (λ (s : Status). Answers limit input out notes (As s)) (sym said.0) (why, still, said.1)
 refused_answers limit input out notes script.Memory status why still said = subst (λ (s : Status). Answers limit input out notes (As s)) (sym said.0) (still, said.1)
 
-pub refused_tells : (input notes : Change) (fault : ScriptFault) (status : Status) → SaysFault fault notes status → (fault ≢ script.Read → input.now ≡ input.before) → TellsFault input (As status)
+pub refused_tells : (input notes : Change) (fault : ScriptFault) (status : Status) → SaysFault fault notes status → (fault ≢ script.Read → input.now ≡ input.before) → ReportsFault input (As status)
 refused_tells input notes (script.BadLine k) status said otherwise unread = otherwise (λ e. cc)
 refused_tells input notes script.TooLong status said otherwise unread = otherwise (λ e. cc)
 refused_tells input notes script.Read status said otherwise unread = absurd (unread (ap As said.0))

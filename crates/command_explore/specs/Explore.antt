@@ -84,5 +84,5 @@ abbrev pub Decides : Change → ExploreStatus → Type 0
 Decides input status = decided.Decides As Own input status
 
 -- a failed read is reported: the input's count of faults rises only where the status says so
-abbrev pub TellsFault : Change → ExploreStatus → Type 0
-TellsFault input status = (status ≡ As ReadFault → ⊥) → input.now ≡ input.before
+abbrev pub ReportsFault : Change → ExploreStatus → Type 0
+ReportsFault input status = (status ≡ As ReadFault → ⊥) → input.now ≡ input.before

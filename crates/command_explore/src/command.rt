@@ -12,7 +12,7 @@ ghost use Rattle.command_endings.specs.Changes.{Notes, change_of};
 ghost use Rattle.command_explore.specs.Words.{AsksFor};
 ghost use Rattle.command_explore.specs.Messages.{stopped_message};
 ghost use Rattle.command_explore.specs.Waits.{stuck_text};
-ghost use Rattle.command_explore.specs.Explore.{Answers, Decides, Explores, TellsFault, WordsAnswer, trace_of};
+ghost use Rattle.command_explore.specs.Explore.{Answers, Decides, Explores, ReportsFault, WordsAnswer, trace_of};
 
 use crate::report::report;
 use crate::stuck::ExploreStatus;
@@ -30,7 +30,7 @@ use trace_core::laws::print_whole;
 const USAGE: &str = "usage: explore [--states N] < SCRIPT\n";
 
 // The message on a stop.
-fn stopped(allowed: u32) -> ArrayString<128>
+fn stop_message(allowed: u32) -> ArrayString<128>
     ensures { result.bytes ≡ stopped_message (allowed + 1) allowed }
 {
     let mut message = ArrayString::<128>::new();
@@ -44,7 +44,7 @@ fn stopped(allowed: u32) -> ArrayString<128>
 fn say_stopped<N: Sink>(notes: &mut N, allowed: u32)
     ensures { Notes (change_of N.held N.faults notes.old notes.new) (stopped_message (allowed + 1) allowed) }
 {
-    say(notes, stopped(allowed).as_str());
+    say(notes, stop_message(allowed).as_str());
 }
 
 // Prints the trace of a play that gets stuck.
@@ -64,7 +64,7 @@ fn print_trace<O: Sink>(script: &Script, stuck: &Stuck, out: &mut O) -> Result<(
 }
 
 // Prints the trace of a play that gets stuck, and says what each thread waits for.
-fn print_told<O: Sink, N: Sink>(
+fn print_reported<O: Sink, N: Sink>(
     script: &Script,
     limit: u32,
     stuck: &Stuck,
@@ -103,7 +103,7 @@ fn print_stuck<O: Sink, N: Sink>(
         (change_of N.held N.faults notes.old notes.new) result }
 {
     match report(alloc, script, stuck) {
-        Ok(text) => print_told(script, limit, stuck, text.as_str(), out, notes),
+        Ok(text) => print_reported(script, limit, stuck, text.as_str(), out, notes),
         Err(_) => ExploreStatus::As(ends(notes, Ending::Memory)),
     }
 }
@@ -163,7 +163,7 @@ fn explore_limited<I: Source, O: Sink, N: Sink>(
     ensures answers { Answers limit (change_of I.left I.faults input.old input.new) (change_of O.held O.faults out.old out.new)
         (change_of N.held N.faults notes.old notes.new) result }
     ensures exact { Decides (change_of I.left I.faults input.old input.new) result }
-    ensures told { TellsFault (change_of I.left I.faults input.old input.new) result }
+    ensures reported { ReportsFault (change_of I.left I.faults input.old input.new) result }
 {
     match read_script(alloc, input) {
         Ok(script) => explore_read(alloc, &script, limit, out, notes),
@@ -185,7 +185,7 @@ pub fn explore_input<I: Source, O: Sink, N: Sink>(
         (change_of O.held O.faults out.old out.new) (change_of N.held N.faults notes.old notes.new) result }
     // Which status it is, if the input decides that.
     ensures exact { (n : ℕ) → AsksFor (map string_bytes words.now) n → Decides (change_of I.left I.faults input.old input.new) result }
-    ensures told { TellsFault (change_of I.left I.faults input.old input.new) result }
+    ensures reported { ReportsFault (change_of I.left I.faults input.old input.new) result }
 {
     match read_limit(words) {
         Some(limit) => explore_limited(alloc, limit, input, out, notes),

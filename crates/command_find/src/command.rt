@@ -4,7 +4,7 @@ ghost use Rattle.std.specs.String.{string_bytes};
 ghost use Rattle.command_endings.specs.Changes.{change_of};
 ghost use Rattle.index_find.specs.Postfix.{tree_of};
 ghost use Rattle.index_text.specs.Faults.{most_bytes};
-ghost use Rattle.command_endings.specs.Endings.{TellsFault};
+ghost use Rattle.command_endings.specs.Endings.{ReportsFault};
 ghost use Rattle.command_find.specs.Find.{PrintsFound, EndsBy, FindAnswers, Decided};
 
 use crate::lines::print_paths;
@@ -44,7 +44,7 @@ fn answer<I: Source, O: Sink, N: Sink>(
     requires { most ≤ most_bytes }
     ensures ends { EndsBy most (tree_of query.now) (change_of I.left I.faults input.old input.new) (change_of O.held O.faults out.old out.new)
         (change_of N.held N.faults notes.old notes.new) result }
-    ensures told { TellsFault (change_of I.left I.faults input.old input.new) result }
+    ensures reported { ReportsFault (change_of I.left I.faults input.old input.new) result }
 {
     match read_index_within(alloc, input, most) {
         Ok(index) => print_found(alloc, query, &index, out, notes),
@@ -64,7 +64,7 @@ pub fn run_find<I: Source, O: Sink, N: Sink>(
     ensures answers { FindAnswers (map string_bytes words.now) (change_of I.left I.faults input.old input.new)
         (change_of O.held O.faults out.old out.new) (change_of N.held N.faults notes.old notes.new) result }
     ensures exact { Decided (map string_bytes words.now) (change_of I.left I.faults input.old input.new) result }
-    ensures told { TellsFault (change_of I.left I.faults input.old input.new) result }
+    ensures reported { ReportsFault (change_of I.left I.faults input.old input.new) result }
 {
     let Some((most, tokens)) = read_limit(words) else {
         return ends(notes, Ending::Usage);

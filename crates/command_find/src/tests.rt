@@ -80,7 +80,7 @@ fn fails_after(
 }
 
 #[test]
-fn a_failed_read_is_told(rt: HostRuntime) -> Result<(), Fail> {
+fn a_failed_read_is_reported(rt: HostRuntime) -> Result<(), Fail> {
     let alloc = rt.alloc();
     assert!(rt; fails_after(alloc, SMALL, 0, Status::ReadFault)?);
     assert!(rt; fails_after(alloc, SMALL, 20, Status::ReadFault)?);

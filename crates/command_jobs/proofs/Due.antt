@@ -50,9 +50,9 @@ module _ (bytes : List ℕ) where
   due_long TooLong h g = refl
   due_long t h g = absurd g
 
-module _ (input : Change) (bytes : List ℕ) (told : input.old ≡ Some bytes) where
+module _ (input : Change) (bytes : List ℕ) (reported : input.old ≡ Some bytes) where
   at_bytes : (P : List ℕ → Type 0) → IfSome input.old P → P bytes
-  at_bytes P h = subst (λ (o : Option (List ℕ)). IfSome o P) told h
+  at_bytes P h = subst (λ (o : Option (List ℕ)). IfSome o P) reported h
 
   reads : (lines : List JobLine) → IsRead input lines → ReadsAs bytes lines
   reads lines h = at_bytes (λ b. ReadsAs b lines) h.whole

@@ -2,7 +2,7 @@
 ghost use Rattle.std.specs.Prelude.{◌≡◌, ◌≤◌, length};
 ghost use Rattle.std.specs.List.{AllByRecursion};
 ghost use Rattle.command_endings.specs.Changes.{change_of};
-ghost use Rattle.command_endings.specs.Endings.{TellsFault};
+ghost use Rattle.command_endings.specs.Endings.{ReportsFault};
 ghost use Rattle.command_jobs.specs.JobLines.{most_lines};
 ghost use Rattle.command_jobs.specs.Jobs.{Decided, JobsAnswers, Runs};
 
@@ -53,7 +53,7 @@ pub fn run_jobs_command<R: Threads + Wait + Sync, I: Source, O: Sink, N: Sink>(
     ensures answers { JobsAnswers (change_of I.left I.faults input.old input.new) (change_of O.held O.faults out.old out.new)
         (change_of N.held N.faults notes.old notes.new) result }
     ensures exact { Decided (change_of I.left I.faults input.old input.new) result }
-    ensures told { TellsFault (change_of I.left I.faults input.old input.new) result }
+    ensures reported { ReportsFault (change_of I.left I.faults input.old input.new) result }
 {
     match read_jobs(alloc, input) {
         Ok(lines) => run_read(rt, alloc, workers, lines, out, notes),

@@ -3,7 +3,7 @@ ghost use Rattle.std.specs.Prelude.{◌≡◌, ◌≤◌, ◌≢◌, length, IfO
 ghost use Rattle.std.specs.List.{AllByRecursion};
 ghost use Rattle.std.specs.Io.KnownBytes.{IsAtEnd};
 ghost use Rattle.exact_text.specs.Exact.{HasReason, OrMemory, lines_room};
-ghost use Rattle.exact_text.specs.Intake.{IsTold};
+ghost use Rattle.exact_text.specs.Intake.{IsReported};
 ghost use Rattle.command_jobs.specs.JobLines.{IsJobs, IsLawful, ReadsAs, most_lines};
 
 use crate::job_line::JobLine;
@@ -27,7 +27,7 @@ pub fn read_jobs<I: Source>(alloc: Global, input: &mut I) -> Result<Vec<JobLine>
     ensures end { OnOk result (IsAtEnd (I.left input.new)) }
     ensures fault { IfErr result (OrMemory (HasReason IsJobs (lines_room most_lines) 0 (I.left input.old) (I.left input.new)
         (I.faults input.old) (I.faults input.new))) }
-    ensures told { IsTold (I.faults input.old) (I.faults input.new) result }
+    ensures reported { IsReported (I.faults input.old) (I.faults input.new) result }
 {
     let mut intake = Intake::new(u64::MAX - 1);
     let mut lines = Vec::new(alloc);

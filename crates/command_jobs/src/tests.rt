@@ -26,7 +26,7 @@ fn answers<R: Threads + Wait + Sync>(
 }
 
 #[test]
-fn a_failed_read_is_told(rt: HostRuntime) -> Result<(), Fail> {
+fn a_failed_read_is_reported(rt: HostRuntime) -> Result<(), Fail> {
     let text = b"sum 3\nsum 0\nsum 1000000\n".as_slice();
     let alloc = rt.alloc();
     let right = answers(&rt, alloc, text, 24, Status::ReadFault, b"")?

@@ -20,8 +20,8 @@ known P o x e h = subst (λ z. IfSome z P) e h
 module _ {S : Type 0} (shown : Status → S) (own : S → Type 0) (input : Change) where
   -- a script was read, and the status is one of its own
   pub read_decides : (l : Layout) (xs : List Line) (status : S) → IsRead input l xs → (status ≢ shown Memory → own status) → Decides shown own input status
-  read_decides l xs status read ended bytes told unread some =
-      let text = known (λ b. ReadsAs b l xs) input.old bytes told read.whole in
+  read_decides l xs status read ended bytes reported unread some =
+      let text = known (λ b. ReadsAs b l xs) input.old bytes reported read.whole in
       record {
         done = λ short. ended some;
         bad_line = λ k bad long. absurd (one_answer.text_or_bad bytes k (l, xs, text, read.few) bad);
@@ -29,8 +29,8 @@ module _ {S : Type 0} (shown : Status → S) (own : S → Type 0) (input : Chang
       }
 
   bad_line_decides : (k : ℕ) → Refuses input (script.BadLine k) → Decides shown own input (shown BadText)
-  bad_line_decides k h bytes told unread some =
-      let b = known (λ i. IsBadLine i k × (IsTooLong i → ⊥)) input.old bytes told h in
+  bad_line_decides k h bytes reported unread some =
+      let b = known (λ i. IsBadLine i k × (IsTooLong i → ⊥)) input.old bytes reported h in
       record {
         done = λ short. absurd (one_answer.text_or_bad bytes k short b.0);
         bad_line = λ j bad long. refl;
@@ -38,8 +38,8 @@ module _ {S : Type 0} (shown : Status → S) (own : S → Type 0) (input : Chang
       }
 
   too_long_decides : Refuses input script.TooLong → Decides shown own input (shown TooLong)
-  too_long_decides h bytes told unread some =
-      let t = known IsTooLong input.old bytes told h in
+  too_long_decides h bytes reported unread some =
+      let t = known IsTooLong input.old bytes reported h in
       record {
         done = λ short. absurd (one_answer.text_or_long bytes short t);
         bad_line = λ k bad long. absurd (long t);
@@ -49,5 +49,5 @@ module _ {S : Type 0} (shown : Status → S) (own : S → Type 0) (input : Chang
   pub refused_decides : (notes : Change) (fault : ScriptFault) (status : Status) → Refuses input fault → SaysFault fault notes status → Decides shown own input (shown status)
   refused_decides notes (script.BadLine k) status why said = subst (λ (z : Status). Decides shown own input (shown z)) (sym said.0) (bad_line_decides k why)
   refused_decides notes script.TooLong status why said = subst (λ (z : Status). Decides shown own input (shown z)) (sym said.0) (too_long_decides why)
-  refused_decides notes script.Read status why said = λ bytes told unread some. absurd (unread (ap shown said.0))
-  refused_decides notes script.Memory status why said = λ bytes told unread some. absurd (some (ap shown said.0))
+  refused_decides notes script.Read status why said = λ bytes reported unread some. absurd (unread (ap shown said.0))
+  refused_decides notes script.Memory status why said = λ bytes reported unread some. absurd (some (ap shown said.0))

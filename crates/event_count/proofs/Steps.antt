@@ -17,13 +17,13 @@ module _ {T H W : Type 0} where
     begun_raised w begun = begun ∙ ap (λ k. record (recorded k z) { wait = w }) raises
 
   -- the thread o has read its number as b, has begun its wait as u, and has given the pen back as z
-  module _ (o b u z : Known T H W) (pen : o.pen ≡ No) (began : b ≡ record o { pen = b.pen; next = b.next }) (told : z ≡ record u { pen = No; entries = z.entries; lost = z.lost }) where
+  module _ (o b u z : Known T H W) (pen : o.pen ≡ No) (began : b ≡ record o { pen = b.pen; next = b.next }) (recorded : z ≡ record u { pen = No; entries = z.entries; lost = z.lost }) where
     pub begun_traced : (w : Opt Wait) (q : Pen) → u ≡ record (learnt b u) { wait = w; pen = q } → z ≡ record (recorded o z) { wait = w }
     begun_traced w q begun =
         let G : Known T H W → Known T H W = λ k. record k { seen = z.seen; mine = z.mine; places = z.places; next = z.next } in
         let F : Known T H W → Known T H W = λ k. record k { seen = z.seen; mine = z.mine; places = z.places; next = z.next; pen = No; entries = z.entries; lost = z.lost } in
         let E : Known T H W → Pen → Known T H W = λ k p. record (recorded k z) { wait = w; pen = p } in
-        ap G told ∙ ap F begun ∙ ap (λ k. E k No) began ∙ ap (E o) (sym pen)
+        ap G recorded ∙ ap F begun ∙ ap (λ k. E k No) began ∙ ap (E o) (sym pen)
 
   -- the thread o has the spin word of n as i, and is z when it has given it back
   module _ (n : ℕ) (o i b z : Known T H W) (outside : (o.spin ≡ None) × (o.queue ≡ []) × (o.owed ≡ []) × (o.left ≡ []))
@@ -45,9 +45,9 @@ module _ {T H W : Type 0} where
   module _ (n : ℕ) (o i b a e : Known T H W) (l : List ℕ) (m : ℕ) (p : Pen)
       (below : i ≡ record o { spin = Some n; queue = i.queue; left = i.queue; count = i.count; failed = without n o.failed })
       (began : b ≡ record i { pen = b.pen; next = b.next }) (advances : a ≡ record (learnt b a) { left = l; count = m; calling = None; pen = p })
-      (told : e ≡ record a { pen = No; entries = e.entries; lost = e.lost }) where
+      (recorded : e ≡ record a { pen = No; entries = e.entries; lost = e.lost }) where
     pub owes_as_before : e.owed ≡ o.owed
-    owes_as_before = ap (λ k. k.owed) told ∙ (ap (λ k. k.owed) advances ∙ (ap (λ k. k.owed) began ∙ ap (λ k. k.owed) below))
+    owes_as_before = ap (λ k. k.owed) recorded ∙ (ap (λ k. k.owed) advances ∙ (ap (λ k. k.owed) began ∙ ap (λ k. k.owed) below))
 
     module _ (z : Known T H W) (spin : o.spin ≡ None) (queue : o.queue ≡ []) (left : o.left ≡ []) (pen : o.pen ≡ No) where
       -- it has left, with what it owes then
@@ -59,7 +59,7 @@ module _ {T H W : Type 0} where
           let K : Known T H W → Known T H W = λ k. record (F k) { pen = No } in
           let D : Known T H W → Known T H W = λ k. record (K k) { calling = None } in
           let E : Opt ℕ → List ℕ → List ℕ → List ℕ → Pen → Known T H W = λ s q f u r. record (recorded o z) { spin = s; queue = q; left = f; owed = u; pen = r; count = z.count; failed = without n o.failed; calling = None } in
-          ap G last ∙ ap F told ∙ ap K advances ∙ ap D began ∙ ap D below
+          ap G last ∙ ap F recorded ∙ ap K advances ∙ ap D began ∙ ap D below
           ∙ ap (λ s. E s [] [] d No) (sym spin)
           ∙ ap (λ q. E o.spin q [] d No) (sym queue)
           ∙ ap (λ f. E o.spin o.queue f d No) (sym left)

@@ -5,8 +5,8 @@
 //! Nub. Nothing is promised about how long a thread blocks, nor about which thread a Signal takes.
 #![tactic(auto)]
 
-mod advancing;
-mod blocking;
+mod advance;
+mod wait;
 
-pub use advancing::{advance_quietly, advance_slowly};
-pub use blocking::{block, read_count};
+pub use advance::{advance_quietly, advance_slowly};
+pub use wait::{block, read_count};

@@ -26,14 +26,14 @@ moved (Some xs) (Some ys) old new piece h e = ap (λ w. w ++ ys) e ∙ append_as
 pub filled : (old new : Intake) (left left' : Option (List ℕ)) (before now most n : ℕ) → new.budget ≡ old.budget → new.lines ≡ old.lines → new.given ≡ old.given + n → most ≤ old.budget - old.given
     → Takes most left left' old.window new.window n → IsFilled old new left left' before now (Ok (nat_lt 0 n))
 filled old new left left' before now most zero b l g m t =
-    let same : new.window ≡ old.window = t.behind ∙ ap (λ p. old.window ++ p) (nothing_left t.piece t.count) ∙ append-nil old.window in
+    let same : new.window ≡ old.window = t.following ∙ ap (λ p. old.window ++ p) (nothing_left t.piece t.count) ∙ append-nil old.window in
     ((b, l), same, omega (arith, b, g, ap length same), kept_by_none left left' t.piece t.consumed t.count, t.at_end refl)
 filled old new left left' before now most (suc n) b l g m t =
     let some : nat_lt 0 (suc n) ≡ true = search (rules, tests) in
-    rw some ((b, l), omega (arith, g), omega (arith, b, g, m, t.bounded, t.count, ap length t.behind, length-append old.window t.piece), moved left left' old.window new.window t.piece t.consumed t.behind)
+    rw some ((b, l), omega (arith, g), omega (arith, b, g, m, t.bounded, t.count, ap length t.following, length-append old.window t.piece), moved left left' old.window new.window t.piece t.consumed t.following)
 
 -- the counts stay in their bounds
 pub still_within : (most given budget lines n : ℕ) (left left' : Option (List ℕ)) (old new : List ℕ) → lines + length old ≤ given → given ≤ budget → most ≤ budget - given → Takes most left left' old new n
     → (lines + length new ≤ given + n) × (given + n ≤ budget)
 still_within most given budget lines n left left' old new r w m t =
-    (omega (arith, r, t.count, ap length t.behind, length-append old t.piece), omega (arith, w, m, t.bounded))
+    (omega (arith, r, t.count, ap length t.following, length-append old t.piece), omega (arith, w, m, t.bounded))

@@ -133,8 +133,8 @@ module _ {X : Type 0} {Text : List ℕ → Type 0} {lawful : X → Type 0} {text
   pub begins_back : (x : X) → lawful x → (rest : List ℕ) → Begins Text (text x ++ rest) → Begins (Next x) rest
   begins_back x l rest b = prefix_goes_on (text x ++ rest) rest x (code.again x rest l) b
 
-  pub begins_behind : (x : X) → lawful x → (rest : List ℕ) → Begins (Next x) rest → Begins Text (text x ++ rest)
-  begins_behind x l rest b = prefix_from (text x ++ rest) rest x (code.again x rest l) b
+  pub begins_after : (x : X) → lawful x → (rest : List ℕ) → Begins (Next x) rest → Begins Text (text x ++ rest)
+  begins_after x l rest b = prefix_from (text x ++ rest) rest x (code.again x rest l) b
 
   -- what begins with another line is broken there, however it goes on
   pub broken : (bytes more : List ℕ) → read bytes ≡ Err Dead → IsBrokenAt Text (bytes ++ more) 1
@@ -179,19 +179,19 @@ module _ {X : Type 0} {Text : List ℕ → Type 0} {lawful : X → Type 0} {text
       }
 
   -- after a line of the text, what is broken or cut short is so in the whole
-  pub broken_behind : (x : X) → lawful x → (input : List ℕ) (k : ℕ) → IsBrokenAt (Next x) input k → IsBrokenAt Text (text x ++ input) (k + 1)
-  broken_behind x l input k b =
+  pub broken_after : (x : X) → lawful x → (input : List ℕ) (k : ℕ) → IsBrokenAt (Next x) input k → IsBrokenAt Text (text x ++ input) (k + 1)
+  broken_after x l input k b =
       let line = grammar.lines x l in
       let low : k + 1 - 1 ≡ suc (k - 1) = omega (arith, b.counted) in
       let high : k + 1 ≡ suc k = omega arith in record {
         counted = omega arith;
-        before = subst (Begins Text) (sym (ap (λ m. first_lines m (text x ++ input)) low ∙ first_lines-line (text x) input (k - 1) line)) (begins_behind x l (first_lines (k - 1) input) b.before);
+        before = subst (Begins Text) (sym (ap (λ m. first_lines m (text x ++ input)) low ∙ first_lines-line (text x) input (k - 1) line)) (begins_after x l (first_lines (k - 1) input) b.before);
         broken = λ t. b.broken (begins_back x l (first_lines k input) (subst (Begins Text) (ap (λ m. first_lines m (text x ++ input)) high ∙ first_lines-line (text x) input k line) t));
       }
 
-  pub cut_short_behind : (x : X) → lawful x → (input : List ℕ) (k : ℕ) → IsCutShortAt (Next x) input k → IsCutShortAt Text (text x ++ input) (k + 1)
-  cut_short_behind x l input k c = record {
-    prefix = begins_behind x l input c.prefix;
+  pub cut_short_after : (x : X) → lawful x → (input : List ℕ) (k : ℕ) → IsCutShortAt (Next x) input k → IsCutShortAt Text (text x ++ input) (k + 1)
+  cut_short_after x l input k c = record {
+    prefix = begins_after x l input c.prefix;
     no_text = λ t. c.no_text (text_back x l input t);
     last = omega (arith, c.last, newlines-line (text x) input (grammar.lines x l));
   }

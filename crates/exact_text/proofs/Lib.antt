@@ -3,7 +3,7 @@ pub mod CodeLaws
 pub mod Numbers
 pub mod Choices
 pub mod Pieces
-pub mod Told
+pub mod Reported
 pub mod Filled
 pub mod Grammar
 pub mod Flat

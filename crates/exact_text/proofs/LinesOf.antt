@@ -18,7 +18,7 @@ use Rattle.exact_text.specs.Prefixes.{Begins, first_lines, newlines, IsBrokenAt,
 use Rattle.exact_text.specs.Exact.{HasReason, IsShown, IsStuck, lines_room}
 use Rattle.exact_text.specs.Intake.{IsAsked, rest_of, room_of}
 use Rattle.exact_text.specs.Unfolds.{Unfolds, AreLines}
-use Rattle.exact_text.proofs.Grammar.{first_lines-zero, first_lines-line, line_some, no_newline, prefix, broken, cut_short, broken_behind, cut_short_behind}
+use Rattle.exact_text.proofs.Grammar.{first_lines-zero, first_lines-line, line_some, no_newline, prefix, broken, cut_short, broken_after, cut_short_after}
 use Rattle.exact_text.proofs.Shown.{lines_begin}
 use Rattle.exact_text.proofs.Stuck.{more_short, rose_since, kept_consumes, Keeps-refl}
 
@@ -140,7 +140,7 @@ module _ {X : Type 0} {lawful : X → Type 0} {text : X → List ℕ} {read : Li
   broken_in (x ∷ xs) all s k j e b =
       let rest = flat_map text xs ++ s in
       let ih = broken_in xs all.1 s k (length xs + k) refl b in
-      let q = broken_lines (text x ++ rest) (length xs + k + 1) (some_bytes x all.0 rest) (broken_behind grammar code x all.0 rest (length xs + k) ih) in
+      let q = broken_lines (text x ++ rest) (length xs + k + 1) (some_bytes x all.0 rest) (broken_after grammar code x all.0 rest (length xs + k) ih) in
       let same : length xs + k + 1 ≡ j = omega (arith, e) in
       subst (λ l. IsBrokenAt Lines l j) (sym (append_assoc (text x) (flat_map text xs) s)) (subst (IsBrokenAt Lines (text x ++ rest)) same q)
 
@@ -149,7 +149,7 @@ module _ {X : Type 0} {lawful : X → Type 0} {text : X → List ℕ} {read : Li
   cut_in (x ∷ xs) all s k j e b =
       let rest = flat_map text xs ++ s in
       let ih = cut_in xs all.1 s k (length xs + k) refl b in
-      let q = cut_lines (text x ++ rest) (length xs + k + 1) (some_bytes x all.0 rest) (cut_short_behind grammar code x all.0 rest (length xs + k) ih) in
+      let q = cut_lines (text x ++ rest) (length xs + k + 1) (some_bytes x all.0 rest) (cut_short_after grammar code x all.0 rest (length xs + k) ih) in
       let same : length xs + k + 1 ≡ j = omega (arith, e) in
       subst (λ l. IsCutShortAt Lines l j) (sym (append_assoc (text x) (flat_map text xs) s)) (subst (IsCutShortAt Lines (text x ++ rest)) same q)
 

@@ -18,8 +18,8 @@ use Rattle.exact_text.specs.Intake.{IsFilled, room_of}
 pub take_more_than : (n : ℕ) (w ys : List ℕ) → length w ≤ n → take n (w ++ ys) ≡ w ++ take (n - length w) ys
 take_more_than n w ys le = let e : n ≡ length w + (n - length w) = omega arith in ap (λ m. take m (w ++ ys)) e ∙ take-append-add w ys (n - length w)
 
-pub take_behind : (text xs ys : List ℕ) (room room' : ℕ) → xs ≡ text ++ ys → room' + length text ≡ room → take room xs ≡ text ++ take room' ys
-take_behind text xs ys room room' c same =
+pub take_after : (text xs ys : List ℕ) (room room' : ℕ) → xs ≡ text ++ ys → room' + length text ≡ room → take room xs ≡ text ++ take room' ys
+take_after text xs ys room room' c same =
     let e : room ≡ length text + room' = omega arith in
     ap (λ n. take n xs) e ∙ ap (take (length text + room')) c ∙ take-append-add text ys room'
 

@@ -32,7 +32,7 @@ IsFilled old new left left' before now (Err TooLong) =
 IsFilled old new left left' before now (Err Read) = Rose before now × Keeps left left'
 
 -- A failed read is reported: the count of faults never falls, and rises only where the call reports a failed read.
-pub record IsTold {T : Type 0} (before now : ℕ) (result : Result T TextFault) : Type 0 where
+pub record IsReported {T : Type 0} (before now : ℕ) (result : Result T TextFault) : Type 0 where
   pub later : before ≤ now
   pub unfailed : OnOk result (now ≡ before)
   pub otherwise : IfErr result (λ fault. fault ≢ Read → now ≡ before)

@@ -21,7 +21,7 @@ pub struct Intake {
 }
 
 impl Intake {
-    ghost use Rattle.exact_text.specs.Intake.{IsFilled, IsAsked, IsTold};
+    ghost use Rattle.exact_text.specs.Intake.{IsFilled, IsAsked, IsReported};
 
     /// Nothing, of which so many bytes may be read.
     pub fn new(budget: u64) -> Intake
@@ -43,7 +43,7 @@ impl Intake {
     pub fn fill<I: Source>(&mut self, input: &mut I) -> Result<bool, TextFault>
         requires { length self.old.window < 65536 }
         ensures filled { IsFilled self.old self.new (I.left input.old) (I.left input.new) (I.faults input.old) (I.faults input.new) result }
-        ensures told { IsTold (I.faults input.old) (I.faults input.new) result }
+        ensures reported { IsReported (I.faults input.old) (I.faults input.new) result }
     {
         if self.given < self.budget {
             let most = (self.budget - self.given).min(65536) as usize;
@@ -67,7 +67,7 @@ impl Intake {
     /// Whether a byte is left. Where none is held, the source is asked.
     pub fn goes_on<I: Source>(&mut self, input: &mut I) -> Result<bool, TextFault>
         ensures asked { IsAsked self.old self.new (I.left input.old) (I.left input.new) (I.faults input.old) (I.faults input.new) result }
-        ensures told { IsTold (I.faults input.old) (I.faults input.new) result }
+        ensures reported { IsReported (I.faults input.old) (I.faults input.new) result }
         ensures asks { ((input.new ≡ input.old) × (self.new ≡ self.old)) ⊎ (self.old.window ≡ []) }
     {
         if self.window.len() > 0 {

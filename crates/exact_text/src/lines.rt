@@ -2,7 +2,7 @@
 ghost use Rattle.std.specs.Prelude.{◌≡◌, ◌+◌, ◌-◌, ◌<◌, ◌≤◌, [], IfOk, IfErr, IfSome, IfNone};
 ghost use Rattle.std.specs.Io.KnownBytes.{Consumes, IsAtEnd};
 ghost use Rattle.exact_text.specs.Exact.{HasReason, lines_room};
-ghost use Rattle.exact_text.specs.Intake.{rest_of, room_of, IsTold};
+ghost use Rattle.exact_text.specs.Intake.{rest_of, room_of, IsReported};
 ghost use Rattle.exact_text.specs.Unfolds.{AreLines};
 
 use crate::{Intake, NextLine, TextFault, take_line};
@@ -26,7 +26,7 @@ pub fn another_line<I: Source, L: NextLine>(
         × IsAtEnd (I.left input.new))) }
     ensures fault { IfErr result (HasReason (AreLines (L.is_lawful next.now) (L.text next.now)) (lines_room (most - intake.old.lines))
         intake.old.lines (rest_of intake.old (I.left input.old)) (I.left input.new) (I.faults input.old) (I.faults input.new)) }
-    ensures told { IsTold (I.faults input.old) (I.faults input.new) result }
+    ensures reported { IsReported (I.faults input.old) (I.faults input.new) result }
 {
     match intake.goes_on(input) {
         Ok(true) => {}

@@ -67,7 +67,7 @@ fn lose(window: &mut Window, held: &mut Vec<u8>)
 }
 
 impl LongIntake {
-    ghost use Rattle.exact_text.specs.Intake.{IsTold};
+    ghost use Rattle.exact_text.specs.Intake.{IsReported};
     ghost use Rattle.exact_text.specs.Long.{IsLongFilled, IsLongAsked};
 
     /// Nothing, of which so many bytes may be read.
@@ -117,7 +117,7 @@ impl LongIntake {
     pub fn fill<I: Source>(&mut self, input: &mut I) -> Result<bool, TextFault>
         ensures filled { IsLongFilled self.old self.new (I.left input.old) (I.left input.new) (I.faults input.old) (I.faults input.new)
             result }
-        ensures told { IsTold (I.faults input.old) (I.faults input.new) result }
+        ensures reported { IsReported (I.faults input.old) (I.faults input.new) result }
     {
         match self.intake.fill(input) {
             Ok(true) => {}
@@ -143,7 +143,7 @@ impl LongIntake {
     pub fn goes_on<I: Source>(&mut self, input: &mut I) -> Result<bool, TextFault>
         ensures asked { IsLongAsked self.old self.new (I.left input.old) (I.left input.new) (I.faults input.old) (I.faults input.new)
             result }
-        ensures told { IsTold (I.faults input.old) (I.faults input.new) result }
+        ensures reported { IsReported (I.faults input.old) (I.faults input.new) result }
         ensures asks { ((input.new ≡ input.old) × (self.new ≡ self.old)) ⊎ (self.old.window ≡ []) }
     {
         if self.start < self.held.len() {

@@ -4,7 +4,7 @@ ghost use Rattle.std.specs.Io.KnownBytes.{Consumes};
 ghost use Rattle.exact_text.specs.Codes.{IsCode};
 ghost use Rattle.exact_text.specs.Exact.{IsStuck};
 ghost use Rattle.exact_text.specs.Prefixes.{IsLine};
-ghost use Rattle.exact_text.specs.Intake.{rest_of, room_of, IsTold};
+ghost use Rattle.exact_text.specs.Intake.{rest_of, room_of, IsReported};
 ghost use Rattle.exact_text.specs.Reading.{Gives};
 ghost use Rattle.exact_text.specs.declared.stop.Stop.{Stop};
 
@@ -96,7 +96,7 @@ pub fn take_line<I: Source, L: NextLine>(
     ensures budget { OnOk result (intake.new.budget ≡ intake.old.budget) }
     ensures fault { IfErr result (IsStuck (L.reads next.now) intake.old.lines (room_of intake.old)
         (rest_of intake.old (I.left input.old)) (I.left input.new) (I.faults input.old) (I.faults input.new)) }
-    ensures told { IsTold (I.faults input.old) (I.faults input.new) result }
+    ensures reported { IsReported (I.faults input.old) (I.faults input.new) result }
     // The source is asked only where the bytes held don't decide.
     ensures asks { IfOk result (λ x. ((input.new ≡ input.old) × (L.reads next.now intake.old.window ≡ Ok (x, intake.new.window)))
         ⊎ (L.reads next.now intake.old.window ≡ Err Stop.More)) }

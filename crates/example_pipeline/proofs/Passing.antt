@@ -8,7 +8,7 @@ use Rattle.nub_rule.specs.Items.{Each}
 use Rattle.nub_rule.specs.Known.{Shape}
 use Rattle.nub_rule.proofs.Each.{each-none}
 use Rattle.nub.specs.Ended.{KeepsLocks}
-use Rattle.nub.proofs.Users.{all_told, share_count, share_of}
+use Rattle.nub.proofs.Users.{all_recorded, share_count, share_of}
 use Rattle.bounded_buffer.specs.declared.note.Note.{Note}
 use Rattle.bounded_buffer.specs.Parts.{Used}
 use Rattle.bounded_buffer.specs.Plain.{Keeps, part_of}
@@ -27,9 +27,9 @@ pub record Tells (count : ℕ) (lefts : List Came) (n : ℕ) (s : List (Note ℕ
   pub ordered : (k : ℕ) → Falls (part_of s k).puts × Falls (part_of s k).takes
 
 -- what a thread has done, its share says
-told : (count : ℕ) (lefts : List Came) (p : Shape (Unit {0})) (n : ℕ) (t : Worker) → (left : Came) × (get_elem? lefts n ≡ some left) × HasEnded (IsStage count left n) p n t
+recorded : (count : ℕ) (lefts : List Came) (p : Shape (Unit {0})) (n : ℕ) (t : Worker) → (left : Came) × (get_elem? lefts n ≡ some left) × HasEnded (IsStage count left n) p n t
     → (s : List (Note ℕ)) × (t.share ≡ Some s) × Tells count lefts n s
-told count lefts p n t h =
+recorded count lefts p n t h =
     let used = h.2.used in
     let said = used.said in (
       used.share,
@@ -98,7 +98,7 @@ pub closes : (count : ℕ) (came : Came) (p : Shape (Unit {0})) (threads : List 
     → Each (λ n t. (left : Came) × (get_elem? lefts n ≡ some left) × HasEnded (IsStage count left n) p n t) threads → Closes count came threads values
 closes count came p threads lefts values locks three two last ended =
     let shares = locks.shares in
-    let each = all_told (Tells count lefts) threads shares locks.each_share (λ n t at. told count lefts p n t (ended n t at)) in
+    let each = all_recorded (Tells count lefts) threads shares locks.each_share (λ n t at. recorded count lefts p n t (ended n t at)) in
     let all = passes count came lefts shares values last locks.kept each (share_count threads shares locks.each_share ∙ three) two in
     record {
       passed = λ n t at. let own = share_of threads shares locks.each_share n t at in record { share = own.0; is_share = own.2; passed = all.each n own.0 own.1 };

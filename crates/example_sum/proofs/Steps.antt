@@ -135,7 +135,7 @@ module _ (p : Adders) where
             omega arith;
       }
 
-  -- the thread that comes back last stands behind the others
+  -- the thread that comes back last stands after the others
   pub last : (before es others us : List Adder) (n : ℕ) (l : Adder) → es ≡ others ++ l ∷ [] → HaveAdded p before n (l ∷ (others ++ us)) → HaveAdded p before n (es ++ us)
   last before es others us n l is have =
       let P = IsLeft p in

@@ -16,7 +16,7 @@ opens tickets n values is =
     let none = total_firsts (λ (s : Sold). s.count) none_sold n refl in
     one_begins (IsSold tickets) values (firsts (λ t. none_sold) n) tickets is record {
       all = omega arith;
-      seen = λ t s e told. let fresh = ap (λ (r : Sold). r.none_left) (at_firsts none_sold n t s e) in absurd (cc);
+      seen = λ t s e recorded. let fresh = ap (λ (r : Sold). r.none_left) (at_firsts none_sold n t s e) in absurd (cc);
     }
 
 -- all tickets were sold, and none is left
@@ -27,12 +27,12 @@ all_sold tickets threads sold values worked any =
     let shares = worked.shares in
     let left = the_value (IsSold tickets) values shares worked.kept in
     let many = worked.count in
-    let told : Each (λ n s. (get_elem? sold n ≡ some s.count) × (s.none_left ≡ true)) shares = λ n s at.
+    let recorded : Each (λ n s. (get_elem? sold n ≡ some s.count) × (s.none_left ≡ true)) shares = λ n s at.
     let own = worked.each n s at in
     (own.is_left ∙ ap some (sym own.goes.count), own.goes.seen) in
     let first = at_below shares 0 (omega arith) in
-    let none : left.0 ≡ 0 = left.2.seen 0 first.0 first.1 (told 0 first.0 first.1).1 in
-    let same = sum_said (λ (s : Sold). s.count) sold shares (omega arith) (λ n s at. (told n s at).0) in
+    let none : left.0 ≡ 0 = left.2.seen 0 first.0 first.1 (recorded 0 first.0 first.1).1 in
+    let same = sum_said (λ (s : Sold). s.count) sold shares (omega arith) (λ n s at. (recorded n s at).0) in
     let all = left.2.all in
     (omega arith, left.1 ∙ ap (λ k. k ∷ []) none)
 

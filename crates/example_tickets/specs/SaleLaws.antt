@@ -23,8 +23,8 @@ after_sale w values shares h m x y at t s r there ok = one_after (IsSold w) valu
     let alike = ok.alike in
     record {
       all = omega arith;
-      seen = λ u q f told. ⊎_elim
-          (λ (o : (u ≡ t) × (r ≡ q)). ok.told (ap (λ (v : Sold). v.none_left) o.1 ∙ told))
-          (λ (o : (u ≢ t) × (get_elem? shares u ≡ some q)). let none = was.seen u q o.1 told in omega arith)
+      seen = λ u q f recorded. ⊎_elim
+          (λ (o : (u ≡ t) × (r ≡ q)). ok.recorded (ap (λ (v : Sold). v.none_left) o.1 ∙ recorded))
+          (λ (o : (u ≢ t) × (get_elem? shares u ≡ some q)). let none = was.seen u q o.1 recorded in omega arith)
           (at_set shares t u r q f);
     })

@@ -32,7 +32,7 @@ pub record IsPart (tickets left : ℕ) (s : Sold) : Type 0 where
 pub record IsSale (left now : ℕ) (s r : Sold) : Type 0 where
   pub falls : now ≤ left
   pub alike : left + s.count ≡ now + r.count
-  pub told : r.none_left ≡ true → now ≡ 0
+  pub recorded : r.none_left ≡ true → now ≡ 0
 
 -- the share says that this many were sold, and that its thread has seen that none is left
 pub record HasSold (sold : ℕ) (s : Sold) : Type 0 where

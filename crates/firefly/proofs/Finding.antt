@@ -1,7 +1,7 @@
 -- What a query means in the rows of the index of a tree, it means in the tree.
 use Rattle.std.proofs.Common.{◌≡◌, ◌⊎◌, ⊎_elim, ℕ, true, false, List, [], Some, refl, sym, ap, subst, ◌∙◌, inl, inr}
 use Rattle.std.specs.Prelude.{◌↔◌, Contains, Option, IfSome, if◌then◌else◌, ◌≤◌, length}
-use Rattle.firefly_outside.specs.Trees.{Path, Told, Bytes, child, is_long}
+use Rattle.firefly_outside.specs.Trees.{Path, Contents, Bytes, child, is_long}
 use Rattle.firefly_outside.specs.Under.{IsUnder}
 use Rattle.firefly_outside.specs.declared.tree.Kind.TheVariants as kind
 use Rattle.word_index.specs.Index.{Entry, File, Hit, Index, IsEntryOf, Row, entries, entry_of, row_entries}
@@ -26,7 +26,7 @@ use Rattle.firefly.specs.Laws.{FindsIndexed, HasWord, MeansFile, NamesFiles}
 same_bytes : (x y : List ℕ) → Some (Bytes x) ≡ Some (Bytes y) → x ≡ y
 same_bytes x y e = cc
 
-module _ (t : Told) (root : Path) (index : Index) (x : IsTreeIndex t root index) where
+module _ (t : Contents) (root : Path) (index : Index) (x : IsTreeIndex t root index) where
   -- the entry of a row's file
   entry_in : (w p : List ℕ) → HasFile index.rows w p → (e : Entry) × Contains (entries index) e × (e.word ≡ w) × (e.path ≡ p)
   entry_in w p h =
@@ -40,7 +40,7 @@ module _ (t : Told) (root : Path) (index : Index) (x : IsTreeIndex t root index)
       let e = entry_in w p h in
       let own = (x.index.entries e.0).0 e.1 in
       let f = own.file in
-      let at = x.told f own.among in
+      let at = x.reported f own.among in
       let same : f.path ≡ p = sym own.path ∙ e.3 in
       let short : is_long at.bytes ≡ false = sym (ap (λ (g : File). g.long) at.shown) ∙ own.short in
       let bytes : f.bytes ≡ at.bytes = ap (λ (g : File). g.bytes) at.shown ∙ ap (λ b. if b then [] else at.bytes) short in
@@ -58,7 +58,7 @@ module _ (t : Told) (root : Path) (index : Index) (x : IsTreeIndex t root index)
       let all = x.all (child root p) h.under in
       let f = all.0 in
       let same : p ≡ f.path = child_name root p f.path all.2 in
-      let at = x.told f all.1 in
+      let at = x.reported f all.1 in
       let bytes : at.bytes ≡ h.bytes = same_bytes at.bytes h.bytes (sym at.here ∙ (ap (λ (q : Path). t (child root q)) (sym same) ∙ h.here)) in
       let short : is_long at.bytes ≡ false = ap is_long bytes ∙ h.short in
       let shown : f.bytes ≡ h.bytes = ap (λ (g : File). g.bytes) at.shown ∙ (ap (λ b. if b then [] else at.bytes) short ∙ bytes) in

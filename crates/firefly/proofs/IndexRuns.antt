@@ -5,7 +5,7 @@ use Rattle.std.proofs.lemmas.Bool.{cases_lt, cases_eq}
 use Rattle.std.proofs.lemmas.Option.{same_Some}
 use mathlib.Core.Option.{some}
 use lib.ListN.{get_elem?}
-use Rattle.firefly_outside.specs.Trees.{Path, Told, Calls}
+use Rattle.firefly_outside.specs.Trees.{Path, Contents, Calls}
 use Rattle.firefly_outside.specs.declared.tree.Kind.{Kind}
 use Rattle.firefly_outside.specs.declared.tree.Kind.TheVariants.{File, Dir}
 use Rattle.larch_actions.specs.declared.event.Event.{Event}
@@ -19,7 +19,7 @@ use Rattle.index_rule.specs.Shares.{Share}
 use Rattle.indexer.specs.Once.{AreSince, IsEachOnce}
 use Rattle.command_line.specs.Grammar.{Options}
 use Rattle.firefly.specs.IndexRun.{AreAskedOnce, AreSpared, NoneRose, OnlyLists, OnlyReads, CallsOf, kind_of_worker, IsAt, ShowsWork, FailedAt, plan_of}
-use Rattle.firefly.specs.Looks.{Look, look_at, look_of, looks_of, told_by, IsSameTree, KeepTrees}
+use Rattle.firefly.specs.Looks.{Look, look_at, look_of, looks_of, reported_by, IsSameTree, KeepTrees}
 use Rattle.firefly.proofs.Places.{Back, Owned, among_at, look_there, place_of, sees, seen}
 use Rattle.firefly.proofs.Spared.{all_once}
 
@@ -35,15 +35,15 @@ if_some : {A : Type 0} (x : Option A) (P Q : A → Type 0) → ((a : A) → P a 
 if_some None P Q f h = tt
 if_some (Some a) P Q f h = f a h
 
-module _ {S : Type 0} (tree : S → Option Told) (weak : S → List Path) (faults : S → ℕ) (calls : S → Calls) where
+module _ {S : Type 0} (tree : S → Option Contents) (weak : S → List Path) (faults : S → ℕ) (calls : S → Calls) where
   abbrev look : S → Look
   look s = look_of tree weak calls faults s
 
   same_look : (s : S) → IsSameTree (look s) (look s)
-  same_look s = record { told = refl; weak = refl; count = omega arith }
+  same_look s = record { reported = refl; weak = refl; count = omega arith }
 
   is_same : (s r : S) → says.IsBack tree weak faults calls s r → IsSameTree (look s) (look r)
-  is_same s r h = record { told = h.same_tree; weak = h.same_weak; count = h.count }
+  is_same s r h = record { reported = h.same_tree; weak = h.same_weak; count = h.count }
 
   -- each tree is back
   pub all_back : (n : ℕ) (old new : List (Option S)) → says.AreBack tree weak faults calls n old new → Back look old new
@@ -105,7 +105,7 @@ module _ {S : Type 0} (tree : S → Option Told) (weak : S → List Path) (fault
   -- the work of the walkers and the parsers is in the history
   pub shows_work : (o : Options) (traced : Bool) (c : Ended IndexValue Share Path) (old new : List (Option S)) → says.IsRunOf (plan_of o traced) c
       → says.AreUsed tree weak faults calls o.walkers (o.walkers + o.parsers) c.threads old new → (h : List Event) → c.trace ≡ Some h → ShowsWork o (looks_of look old) (looks_of look new) h
-  shows_work o traced c old new run used h e k a b low at = by_looks (λ x y. IfSome x.told (λ t. CallsOf (kind_of_worker o k) x.calls y.calls (by_thread (suc k) h))) old new k a b at (λ s r es er.
+  shows_work o traced c old new run used h e k a b low at = by_looks (λ x y. IfSome x.reported (λ t. CallsOf (kind_of_worker o k) x.calls y.calls (by_thread (suc k) h))) old new k a b at (λ s r es er.
       let w = used.workers k s r low es er in
       seen_calls (kind_of_worker o k) s r (by_thread (suc k) h) w.thread (own_part (plan_of o traced) c h run e (suc k) w.thread w.is_thread) w.calls_only)
 
@@ -124,7 +124,7 @@ module _ {S : Type 0} (tree : S → Option Told) (weak : S → List Path) (fault
       → AreSpared o (looks_of look old) (looks_of look new)
   still_spared o old new others k low = look_there look new k ∙ (ap (look_at look) (others k None low) ∙ sym (look_there look old k))
 
-  once_seen : (n : ℕ) (t : Told) (root : Path) (old new : List (Option S)) → IsEachOnce calls t root n old new → IsEachOnce (λ (l : Look). l.calls) t root n (looks_of look old) (looks_of look new)
+  once_seen : (n : ℕ) (t : Contents) (root : Path) (old new : List (Option S)) → IsEachOnce calls t root n old new → IsEachOnce (λ (l : Look). l.calls) t root n (looks_of look old) (looks_of look new)
   once_seen n t root old new e = record {
     listed = e.listed;
     listed_since = since_seen (λ c. c.listed) n old new e.listed e.listed_since;
@@ -137,14 +137,14 @@ module _ {S : Type 0} (tree : S → Option Told) (weak : S → List Path) (fault
   }
 
   -- each directory was listed once, and each file read once, over all trees
-  pub asked_once : (o : Options) (told : Option Told) (old new : List (Option S)) → told_by (looks_of look old) ≡ told → o.walkers + o.parsers < length (looks_of look old)
-      → AreSpared o (looks_of look old) (looks_of look new) → IfSome told (λ t. IsEachOnce calls t o.directory (o.walkers + o.parsers) old new) → AreAskedOnce o (looks_of look old) (looks_of look new)
-  asked_once o told old new first wide spared h =
+  pub asked_once : (o : Options) (reported : Option Contents) (old new : List (Option S)) → reported_by (looks_of look old) ≡ reported → o.walkers + o.parsers < length (looks_of look old)
+      → AreSpared o (looks_of look old) (looks_of look new) → IfSome reported (λ t. IsEachOnce calls t o.directory (o.walkers + o.parsers) old new) → AreAskedOnce o (looks_of look old) (looks_of look new)
+  asked_once o reported old new first wide spared h =
       let n = o.walkers + o.parsers in
       let m = length (looks_of look old) - 1 - n in
       let all : n + m ≡ length (looks_of look old) - 1 = omega arith in
-      subst (λ (q : Option Told). IfSome q (λ t. IsEachOnce (λ (l : Look). l.calls) t o.directory (length (looks_of look old) - 1) (looks_of look old) (looks_of look new))) (sym first)
-      (if_some told (λ t. IsEachOnce calls t o.directory n old new) (λ t. IsEachOnce (λ (l : Look). l.calls) t o.directory (length (looks_of look old) - 1) (looks_of look old) (looks_of look new))
+      subst (λ (q : Option Contents). IfSome q (λ t. IsEachOnce (λ (l : Look). l.calls) t o.directory (length (looks_of look old) - 1) (looks_of look old) (looks_of look new))) (sym first)
+      (if_some reported (λ t. IsEachOnce calls t o.directory n old new) (λ t. IsEachOnce (λ (l : Look). l.calls) t o.directory (length (looks_of look old) - 1) (looks_of look old) (looks_of look new))
       (λ t e. subst (λ (k : ℕ). IsEachOnce (λ (l : Look). l.calls) t o.directory k (looks_of look old) (looks_of look new)) all
       (all_once (λ (l : Look). l.calls) n m (looks_of look old) (looks_of look new) spared t o.directory (once_seen n t o.directory old new e))) h)
 
@@ -156,5 +156,5 @@ module _ {S : Type 0} (tree : S → Option Told) (weak : S → List Path) (fault
     now = look h.r;
     among = among_at (looks_of look old) (looks_of look new) keep h.place (look h.s) (look h.r) (sees look old h.place h.s h.was) (sees look new h.place h.r h.is);
     rose = h.rose;
-    told = h.told;
+    reported = h.reported;
   }

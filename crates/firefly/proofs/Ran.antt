@@ -70,8 +70,8 @@ module _ (input out notes : Change) (l : Layout) (xs : List Line) (status : Stat
   ended (inr m) some = absurd (some m.0)
 
   pub ran_decides : Runs l xs out notes status → Decides input status
-  ran_decides runs bytes told read some =
-      let text = known (λ b. text.ReadsAs b l xs) input.old bytes told whole in
+  ran_decides runs bytes reported read some =
+      let text = known (λ b. text.ReadsAs b l xs) input.old bytes reported whole in
       record {
         done = λ short. ended runs some;
         bad_line = λ k bad long. absurd (one_answer.text_or_bad bytes k (l, xs, text, few) bad);
@@ -79,8 +79,8 @@ module _ (input out notes : Change) (l : Layout) (xs : List Line) (status : Stat
       }
 
 bad_line_decides : (input : Change) (k : ℕ) → Refuses input (script.BadLine k) → Decides input BadText
-bad_line_decides input k h bytes told read some =
-    let b = known (λ i. IsBadLine i k × (IsTooLong i → ⊥)) input.old bytes told h in
+bad_line_decides input k h bytes reported read some =
+    let b = known (λ i. IsBadLine i k × (IsTooLong i → ⊥)) input.old bytes reported h in
     record {
       done = λ short. absurd (one_answer.text_or_bad bytes k short b.0);
       bad_line = λ j bad long. refl;
@@ -88,8 +88,8 @@ bad_line_decides input k h bytes told read some =
     }
 
 too_long_decides : (input : Change) → Refuses input script.TooLong → Decides input TooLong
-too_long_decides input h bytes told read some =
-    let t = known IsTooLong input.old bytes told h in
+too_long_decides input h bytes reported read some =
+    let t = known IsTooLong input.old bytes reported h in
     record {
       done = λ short. absurd (one_answer.text_or_long bytes short t);
       bad_line = λ k bad long. absurd (long t);
@@ -106,5 +106,5 @@ refused_answers input out notes script.Memory status why still said = subst (λ 
 pub refused_decides : (input notes : Change) (fault : ScriptFault) (status : Status) → Refuses input fault → SaysFault fault notes status → Decides input status
 refused_decides input notes (script.BadLine k) status why said = subst (Decides input) (sym said.0) (bad_line_decides input k why)
 refused_decides input notes script.TooLong status why said = subst (Decides input) (sym said.0) (too_long_decides input why)
-refused_decides input notes script.Read status why said = λ bytes told read some. absurd (read said.0)
-refused_decides input notes script.Memory status why said = λ bytes told read some. absurd (some said.0)
+refused_decides input notes script.Read status why said = λ bytes reported read some. absurd (read said.0)
+refused_decides input notes script.Memory status why said = λ bytes reported read some. absurd (some said.0)

@@ -4,7 +4,7 @@ use Rattle.std.specs.Prelude.{◌≢◌, ◌↔◌, AllPairs, Contains, slice_in
 use Rattle.std.proofs.lemmas.Option.{same_Some}
 use mathlib.Core.Option.{some, some-injective, some-ne-none}
 use lib.ListN.{get_elem?}
-use Rattle.firefly_outside.specs.Trees.{Path, Told, Calls}
+use Rattle.firefly_outside.specs.Trees.{Path, Contents, Calls}
 use Rattle.firefly_outside.specs.Under.{IsUnder}
 use Rattle.firefly_outside.specs.declared.tree.Kind.TheVariants.{File, Dir}
 use Rattle.indexer.specs.Once.{AreSince, IsEachOnce, joined}
@@ -54,7 +54,7 @@ module _ {S : Type 0} (calls : S → Calls) (n m : ℕ) (old new : List (Option 
   }
 
   -- what the first trees were asked, all were
-  pub all_once : (t : Told) (root : Path) → IsEachOnce calls t root n old new → IsEachOnce calls t root (n + m) old new
+  pub all_once : (t : Contents) (root : Path) → IsEachOnce calls t root n old new → IsEachOnce calls t root (n + m) old new
   all_once t root h = record {
     listed = h.listed ++ empties m;
     listed_since = more_since (λ c. c.listed) h.listed h.listed_since;

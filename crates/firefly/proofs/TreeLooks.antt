@@ -1,12 +1,12 @@
 -- Trees before a call and after it.
 use Rattle.std.proofs.Common.{◌≡◌, List, [], ◌∷◌, ◌++◌, refl, arith, Option, Some, None}
-use Rattle.firefly_outside.specs.Trees.{Told}
+use Rattle.firefly_outside.specs.Trees.{Contents}
 use Rattle.firefly.specs.Looks.{Look, looks_of, AllTell, Agree, AreOwn, KeepTrees, NoneFailed}
 
-kept : (told : Option Told) (ts : List (Option Look)) → AllTell told ts → KeepTrees ts ts
-kept told [] h = tt
-kept told (None ∷ ts) h = absurd h
-kept told (Some l ∷ ts) h = (record { told = refl; weak = refl; count = omega arith }, kept told ts h.1)
+kept : (reported : Option Contents) (ts : List (Option Look)) → AllTell reported ts → KeepTrees ts ts
+kept reported [] h = tt
+kept reported (None ∷ ts) h = absurd h
+kept reported (Some l ∷ ts) h = (record { reported = refl; weak = refl; count = omega arith }, kept reported ts h.1)
 
 -- what stays is kept
 pub kept-same : (ts : List (Option Look)) → Agree ts → KeepTrees ts ts
@@ -25,9 +25,9 @@ kept_own (Some a ∷ xs) (Some b ∷ ys) h = (h.0, kept_own xs ys h.1)
 pub own-same : (ts : List (Option Look)) → Agree ts → AreOwn ts ts
 own-same ts h = kept_own ts ts (kept-same ts h)
 
-module _ {S : Type 0} (look : S → Look) (told : Option Told) (x : S) (is : (look x).told ≡ told) where
+module _ {S : Type 0} (look : S → Look) (reported : Option Contents) (x : S) (is : (look x).reported ≡ reported) where
   -- one more tree that tells the same
-  pub tells-more : (trees : List (Option S)) → AllTell told (looks_of look trees) → AllTell told (looks_of look (trees ++ Some x ∷ []))
+  pub tells-more : (trees : List (Option S)) → AllTell reported (looks_of look trees) → AllTell reported (looks_of look (trees ++ Some x ∷ []))
   tells-more [] h = (is, tt)
   tells-more (None ∷ ts) h = absurd h
   tells-more (Some y ∷ ts) h = (h.0, tells-more ts h.1)

@@ -17,7 +17,7 @@ use Rattle.command_line.specs.Grammar.{Options}
 use Rattle.command_endings.specs.declared.status.Status.{Status}
 use Rattle.command_endings.specs.declared.status.Status.TheVariants.{Done, Usage, ReadFault, SinkFault, Stopped, Memory, Illegal, BadText, TooMany, TooLong}
 use Rattle.command_endings.specs.Changes.{Change, Notes}
-use Rattle.firefly.specs.Looks.{Look, told_by, Among}
+use Rattle.firefly.specs.Looks.{Look, reported_by, Among}
 use Rattle.command_endings.specs.Messages.{stopped_message, memory_message, too_many_message, unreadable_message}
 
 -- the plan of these options
@@ -31,12 +31,12 @@ NoneRose old new = (a b : Look) → Among old new a b → b.faults ≡ a.faults
 -- the piece is the index of all files under the directory of the options, and neither limit is
 -- passed, if the trees' contents are known
 abbrev pub IsTheIndex : Options → List (Option Look) → Index → Type 0
-IsTheIndex o old piece = IfSome (told_by old) (λ t. IsWhole t o.directory o.stop_after piece)
+IsTheIndex o old piece = IfSome (reported_by old) (λ t. IsWhole t o.directory o.stop_after piece)
 
 -- where the tree shows its contents, over all of them together the directories under the one that is shown were listed, each once, and the files under it
 -- were read, each once
 abbrev pub AreAskedOnce : Options → List (Option Look) → List (Option Look) → Type 0
-AreAskedOnce o old new = IfSome (told_by old) (λ t. IsEachOnce (λ (l : Look). l.calls) t o.directory (length old - 1) old new)
+AreAskedOnce o old new = IfSome (reported_by old) (λ t. IsEachOnce (λ (l : Look). l.calls) t o.directory (length old - 1) old new)
 
 -- each tree after those of the walkers, the parsers and the closing walk is as it was: nothing was asked of it
 abbrev pub AreSpared : Options → List (Option Look) → List (Option Look) → Type 0
@@ -74,7 +74,7 @@ pub record IsAt (old new : List (Option Look)) (place : ℕ) (before now : Look)
 abbrev pub ShowsWork : Options → List (Option Look) → List (Option Look) → List Event → Type 0
 ShowsWork o old new events =
     (k : ℕ) (a b : Look) → k < o.walkers + o.parsers → IsAt old new k a b
-    → IfSome a.told (λ t. CallsOf (kind_of_worker o k) a.calls b.calls (by_thread (suc k) events))
+    → IfSome a.reported (λ t. CallsOf (kind_of_worker o k) a.calls b.calls (by_thread (suc k) events))
 
 -- a call on one of the trees failed at this path: its count rose, and if its contents are known,
 -- the path failed in this call, is reached from the directory, and may fail or isn't in the tree as
@@ -84,14 +84,14 @@ pub record FailedAt (o : Options) (old new : List (Option Look)) (path : Path) :
   pub now : Look
   pub among : Among old new before now
   pub rose : Rose before.faults now.faults
-  pub told : IfSome before.told (λ t. IsFaultUnder t o.directory before.weak path × FailsSince before.calls now.calls path)
+  pub reported : IfSome before.reported (λ t. IsFaultUnder t o.directory before.weak path × FailsSince before.calls now.calls path)
 
 -- why there is no index: the cause of each status
 abbrev pub NoIndex : Options → List (Option Look) → List (Option Look) → Change → Status → Type 0
 NoIndex o old new notes Stopped =
-    (n : ℕ) × (o.stop_after ≡ Some n) × IfSome (told_by old) (λ t. AreMany t o.directory File (n + 1))
+    (n : ℕ) × (o.stop_after ≡ Some n) × IfSome (reported_by old) (λ t. AreMany t o.directory File (n + 1))
     × Notes notes (stopped_message (n + 1) n)
-NoIndex o old new notes TooMany = IfSome (told_by old) (λ t. AreMany t o.directory Dir (most_dirs + 1)) × Notes notes too_many_message
+NoIndex o old new notes TooMany = IfSome (reported_by old) (λ t. AreMany t o.directory Dir (most_dirs + 1)) × Notes notes too_many_message
 NoIndex o old new notes ReadFault = (path : Path) × FailedAt o old new path × Notes notes (unreadable_message path)
 NoIndex o old new notes Memory = Notes notes memory_message
 NoIndex o old new notes Done = ⊥

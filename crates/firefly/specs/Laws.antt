@@ -6,7 +6,7 @@ use Rattle.command_check.specs.Accepted.{IsAccepted}
 use Rattle.command_endings.specs.Changes.{Change}
 use Rattle.command_find.specs.Find.{IsFound}
 use Rattle.command_find.specs.Lines.{lines_of}
-use Rattle.firefly_outside.specs.Trees.{Path, Told, Bytes, child, is_long}
+use Rattle.firefly_outside.specs.Trees.{Path, Contents, Bytes, child, is_long}
 use Rattle.firefly_outside.specs.Under.{IsUnder}
 use Rattle.firefly_outside.specs.declared.tree.Kind.TheVariants.{File}
 use Rattle.index_find.specs.Tree.{Tree, Word, Not, Both, Either}
@@ -37,10 +37,10 @@ AcceptsRounds = (threads rounds : ℕ) (bytes : List ℕ) → IsRoundsTrace thre
 
 -- two indexes of the files under a root of a tree are the same
 abbrev pub IsOneIndex : Type 0
-IsOneIndex = (t : Told) (root : Path) (a b : Index) → IsTreeIndex t root a → IsTreeIndex t root b → a ≡ b
+IsOneIndex = (t : Contents) (root : Path) (a b : Index) → IsTreeIndex t root a → IsTreeIndex t root b → a ≡ b
 
 -- the tree has a file at this path below the root, which isn't too long and has the word
-pub record HasWord (t : Told) (root : Path) (word path : List ℕ) : Type 0 where
+pub record HasWord (t : Contents) (root : Path) (word path : List ℕ) : Type 0 where
   pub under : IsUnder t root File (child root path)
   pub bytes : List ℕ
   pub here : t (child root path) ≡ Some (Bytes bytes)
@@ -49,14 +49,14 @@ pub record HasWord (t : Told) (root : Path) (word path : List ℕ) : Type 0 wher
   pub is_seen : seen_in word (file_words bytes) ≡ Some seen
 
 -- A query means these files of the tree. What a query doesn't mean is meant among the files that have a word.
-abbrev pub MeansFile : Told → Path → Tree → List ℕ → Type 0
+abbrev pub MeansFile : Contents → Path → Tree → List ℕ → Type 0
 MeansFile t root (Word w) path = HasWord t root w path
 MeansFile t root (Not q) path = ((w : List ℕ) × HasWord t root w path) × (MeansFile t root q path → ⊥)
 MeansFile t root (Both x y) path = MeansFile t root x path × MeansFile t root y path
 MeansFile t root (Either x y) path = MeansFile t root x path ⊎ MeansFile t root y path
 
 -- the text names the files that the query means, in the order of their paths, each once and on a line
-pub record NamesFiles (t : Told) (root : Path) (query : Tree) (text : List ℕ) : Type 0 where
+pub record NamesFiles (t : Contents) (root : Path) (query : Tree) (text : List ℕ) : Type 0 where
   pub paths : List (List ℕ)
   pub rising : IsRising paths
   pub each : (p : List ℕ) → Contains paths p ↔ MeansFile t root query p
@@ -66,7 +66,7 @@ pub record NamesFiles (t : Told) (root : Path) (query : Tree) (text : List ℕ) 
 -- means. The paths of the files are UTF-8 and not empty, and the files and the bytes of each are fewer than 2 to the power of 64.
 abbrev pub FindsIndexed : Type 0
 FindsIndexed =
-    (t : Told) (root : Path) (index : Index) (x : IsTreeIndex t root index) → AreFiles x.files
+    (t : Contents) (root : Path) (index : Index) (x : IsTreeIndex t root index) → AreFiles x.files
     → ReadsAs (index_text index) index.rows index.skipped
     × ((most : ℕ) (query : Tree) (input : Change) (text : List ℕ) → input.old ≡ Some (index_text index) → IsFound most query input text
     → NamesFiles t root query text)

@@ -1,17 +1,17 @@
 -- What the trees that are passed show, before a call and after it.
 use Rattle.std.specs.Prelude.{◌≡◌, ◌⊎◌, ℕ, ◌≤◌, List, [], ◌∷◌, Option, Some, None}
-use Rattle.firefly_outside.specs.Trees.{Told, Path, Calls}
+use Rattle.firefly_outside.specs.Trees.{Contents, Path, Calls}
 
 -- what one tree shows: its contents, if they are known, which paths may fail, the calls made on it,
 -- and its count of faults
 pub record Look : Type 0 where
-  pub told : Option Told
+  pub reported : Option Contents
   pub weak : List Path
   pub calls : Calls
   pub faults : ℕ
 
-abbrev pub look_of : {S : Type 0} → (S → Option Told) → (S → List Path) → (S → Calls) → (S → ℕ) → S → Look
-look_of tree weak calls faults s = record { told = tree s; weak = weak s; calls = calls s; faults = faults s }
+abbrev pub look_of : {S : Type 0} → (S → Option Contents) → (S → List Path) → (S → Calls) → (S → ℕ) → S → Look
+look_of tree weak calls faults s = record { reported = tree s; weak = weak s; calls = calls s; faults = faults s }
 
 abbrev pub look_at : {S : Type 0} → (S → Look) → Option S → Option Look
 look_at look None = None
@@ -22,25 +22,25 @@ looks_of look [] = []
 looks_of look (t ∷ ts) = look_at look t ∷ looks_of look ts
 
 -- each place has a tree, with these contents
-abbrev pub AllTell : Option Told → List (Option Look) → Type 0
-AllTell told [] = Unit {0}
-AllTell told (None ∷ ts) = ⊥
-AllTell told (Some l ∷ ts) = (l.told ≡ told) × AllTell told ts
+abbrev pub AllTell : Option Contents → List (Option Look) → Type 0
+AllTell reported [] = Unit {0}
+AllTell reported (None ∷ ts) = ⊥
+AllTell reported (Some l ∷ ts) = (l.reported ≡ reported) × AllTell reported ts
 
 -- each place has a tree, and all have the same contents, or those of none are known
 abbrev pub Agree : List (Option Look) → Type 0
-Agree ts = (told : Option Told) × AllTell told ts
+Agree ts = (reported : Option Contents) × AllTell reported ts
 
 -- the contents of the first of them
-abbrev pub told_by : List (Option Look) → Option Told
-told_by [] = None
-told_by (None ∷ ts) = None
-told_by (Some l ∷ ts) = l.told
+abbrev pub reported_by : List (Option Look) → Option Contents
+reported_by [] = None
+reported_by (None ∷ ts) = None
+reported_by (Some l ∷ ts) = l.reported
 
 -- a tree as it may be after a call: its contents and the paths that may fail stay, and its count
 -- didn't fall
 pub record IsSameTree (a b : Look) : Type 0 where
-  pub told : b.told ≡ a.told
+  pub reported : b.reported ≡ a.reported
   pub weak : b.weak ≡ a.weak
   pub count : a.faults ≤ b.faults
 
@@ -70,4 +70,4 @@ Among _ _ old new = ⊥
 
 -- a tree of unknown contents, with this count of faults
 abbrev pub unseen : ℕ → Look
-unseen faults = record { told = None; weak = []; calls = record { listed = []; files_read = []; failed = [] }; faults = faults }
+unseen faults = record { reported = None; weak = []; calls = record { listed = []; files_read = []; failed = [] }; faults = faults }

@@ -7,7 +7,7 @@ use Rattle.command_endings.specs.Changes.{Change, IsStill, Notes}
 use Rattle.command_endings.specs.Messages.{usage_message, memory_message}
 use Rattle.command_check.specs.Check.{CheckAnswers}
 use Rattle.command_check.specs.VerdictEndings.{Found}
-use Rattle.command_endings.specs.Endings.{TellsFault}
+use Rattle.command_endings.specs.Endings.{ReportsFault}
 use Rattle.command_check.specs.Order.{OrderAnswers, Ordered}
 use Rattle.command_jobs.specs.Jobs.{JobsAnswers, Decided as JobsDecided}
 use Rattle.command_find.specs.Find.{FindAnswers, Decided}
@@ -41,18 +41,18 @@ WordsWant e status = (status ≡ Memory) × (e.new_trees ≡ e.trees) × IsStill
 -- the results of each command
 abbrev pub Answers : Task → Effects → Status → Type 0
 Answers check e status =
-    CheckAnswers e.input e.out e.notes status × Found e.input status × TellsFault e.input status × (e.new_trees ≡ e.trees)
+    CheckAnswers e.input e.out e.notes status × Found e.input status × ReportsFault e.input status × (e.new_trees ≡ e.trees)
 Answers run e status =
-    RunAnswers e.input e.out e.notes status × Decides e.input status × TellsFault e.input status × (e.new_trees ≡ e.trees)
+    RunAnswers e.input e.out e.notes status × Decides e.input status × ReportsFault e.input status × (e.new_trees ≡ e.trees)
 Answers (index o) e status =
     IndexAnswers o e.trees e.new_trees e.out e.notes status × AreSpared o e.trees e.new_trees × IsStill e.input
 Answers (trace o) e status =
     TraceAnswers o e.trees e.new_trees e.out e.notes status × AreSpared o e.trees e.new_trees × IsStill e.input
 Answers (sample seed files) e status = SampleAnswers seed files e.out e.notes status × IsStill e.input × (e.new_trees ≡ e.trees)
 Answers (jobs workers) e status =
-    JobsAnswers e.input e.out e.notes status × JobsDecided e.input status × TellsFault e.input status × (e.new_trees ≡ e.trees)
+    JobsAnswers e.input e.out e.notes status × JobsDecided e.input status × ReportsFault e.input status × (e.new_trees ≡ e.trees)
 Answers (find tokens) e status =
-    FindAnswers tokens e.input e.out e.notes status × Decided tokens e.input status × TellsFault e.input status × (e.new_trees ≡ e.trees)
+    FindAnswers tokens e.input e.out e.notes status × Decided tokens e.input status × ReportsFault e.input status × (e.new_trees ≡ e.trees)
 Answers order e status =
-    OrderAnswers e.input e.out e.notes status × Ordered e.input status × TellsFault e.input status × (e.new_trees ≡ e.trees)
+    OrderAnswers e.input e.out e.notes status × Ordered e.input status × ReportsFault e.input status × (e.new_trees ≡ e.trees)
 Answers (rounds threads each) e status = RoundsAnswers threads each e.out e.notes status × IsStill e.input × (e.new_trees ≡ e.trees)

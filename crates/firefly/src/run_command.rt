@@ -1,7 +1,7 @@
 //! The command `run`.
 ghost use Rattle.script_text.specs.Text.{IsScript};
 ghost use Rattle.command_endings.specs.Changes.{change_of};
-ghost use Rattle.command_endings.specs.Endings.{TellsFault};
+ghost use Rattle.command_endings.specs.Endings.{ReportsFault};
 ghost use Rattle.firefly.specs.RunCommand.{RunAnswers, Runs, Decides, SaysFault};
 
 use crate::print_trace::print_trace;
@@ -37,7 +37,7 @@ fn run_read<R: Threads + Wait + Sync, O: Sink, N: Sink>(
 }
 
 // Prints why no script was read, and returns the status of that fault.
-fn refused<N: Sink>(notes: &mut N, fault: ScriptFault) -> Status
+fn status_of<N: Sink>(notes: &mut N, fault: ScriptFault) -> Status
     ensures { SaysFault fault (change_of N.held N.faults notes.old notes.new) result }
 {
     match fault {
@@ -59,10 +59,10 @@ pub fn run_input<R: Threads + Wait + Sync, I: Source, O: Sink, N: Sink>(
     ensures answers { RunAnswers (change_of I.left I.faults input.old input.new) (change_of O.held O.faults out.old out.new)
         (change_of N.held N.faults notes.old notes.new) result }
     ensures exact { Decides (change_of I.left I.faults input.old input.new) result }
-    ensures told { TellsFault (change_of I.left I.faults input.old input.new) result }
+    ensures reported { ReportsFault (change_of I.left I.faults input.old input.new) result }
 {
     match read_script(alloc, input) {
         Ok(script) => run_read(rt, alloc, &script, out, notes),
-        Err(fault) => refused(notes, fault),
+        Err(fault) => status_of(notes, fault),
     }
 }

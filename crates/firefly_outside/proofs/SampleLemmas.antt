@@ -5,7 +5,7 @@ use Rattle.std.specs.List.{All, range_with_len}
 use Rattle.std.proofs.lemmas.List.Elements.{All-append, All-cons, All-nil}
 use Rattle.std.proofs.lemmas.List.FromFn.{map-range_with_len_more}
 use Rattle.std.proofs.lemmas.Fmt.{decimal_by_steps, decimal_injective}
-use Rattle.firefly_outside.specs.Trees.{Path, Node, Directory, Bytes, Told, child, slash, IsName, HasParent, IsBare, Adds}
+use Rattle.firefly_outside.specs.Trees.{Path, Node, Directory, Bytes, Contents, child, slash, IsName, HasParent, IsBare, Adds}
 use Rattle.firefly_outside.specs.declared.tree.Entry.{Entry}
 use Rattle.firefly_outside.specs.declared.tree.Kind.{Kind}
 use Rattle.firefly_outside.specs.declared.tree.Kind.TheVariants.{File, Dir}
@@ -58,12 +58,12 @@ file_no_dir i k first second same =
     root_alone sample_root (dir_entry (i / 100)).name (sym (child-unique (dir_path (i / 100)) sample_root (file_entry i).name (dir_entry k).name same (file_name i first).plain (dir_name k second).plain).0)
 
 -- all but the child and its parent is as before
-untouched : (old new : Told) (dir name : Path) (kind : Kind) (node : Node) → IsName name → Adds old new (child dir name) kind node → (q : Path) → q ≢ child dir name → q ≢ dir → new q ≡ old q
+untouched : (old new : Contents) (dir name : Path) (kind : Kind) (node : Node) → IsName name → Adds old new (child dir name) kind node → (q : Path) → q ≢ child dir name → q ≢ dir → new q ≡ old q
 untouched old new dir name kind node lawful adds q other apart =
     adds.others q other (λ n es under here. apart (child-unique q dir n name (sym under.is) under.lawful.plain lawful.plain).0)
 
 -- the root alone
-pub root_added : (seed : ℕ) (old new : Told) → IsBare old → Adds old new sample_root Dir (Directory []) → HasSamples seed 0 0 new
+pub root_added : (seed : ℕ) (old new : Contents) → IsBare old → Adds old new sample_root Dir (Directory []) → HasSamples seed 0 0 new
 root_added seed old new bare adds = record {
   at_root = adds.added;
   at_dirs = λ k below. absurd (omega (arith, below));
@@ -75,20 +75,20 @@ root_added seed old new bare adds = record {
     nothing es e = cc
 
 -- nothing is at the path of a directory or file that is to come
-pub dir_absent : (seed dirs files : ℕ) (t : Told) → dirs < 20000 → files < 20000 → HasSamples seed dirs files t → t (dir_path dirs) ≡ None
+pub dir_absent : (seed dirs files : ℕ) (t : Contents) → dirs < 20000 → files < 20000 → HasSamples seed dirs files t → t (dir_path dirs) ≡ None
 dir_absent seed dirs files t few many has = has.elsewhere (dir_path dirs)
     (λ e. root_alone sample_root (dir_entry dirs).name (sym e))
     (λ k below e. omega (arith, below, dir_path-injective dirs k (omega (arith, few)) (omega (arith, few, below)) e))
     (λ i below e. file_no_dir i dirs (omega (arith, many, below)) (omega (arith, few)) (sym e))
 
-pub file_absent : (seed dirs files : ℕ) (t : Told) → dirs < 20000 → files < 20000 → HasSamples seed dirs files t → t (file_path files) ≡ None
+pub file_absent : (seed dirs files : ℕ) (t : Contents) → dirs < 20000 → files < 20000 → HasSamples seed dirs files t → t (file_path files) ≡ None
 file_absent seed dirs files t few many has = has.elsewhere (file_path files)
     (λ e. root_alone (dir_path (files / 100)) (file_entry files).name (sym e))
     (λ k below e. file_no_dir files k (omega (arith, many)) (omega (arith, few, below)) e)
     (λ i below e. omega (arith, below, file_path-injective files i (omega (arith, many)) (omega (arith, many, below)) e))
 
 -- and its parent is there
-pub dir_parent : (seed dirs files : ℕ) (t : Told) → dirs < 20000 → HasSamples seed dirs files t → HasParent t (dir_path dirs)
+pub dir_parent : (seed dirs files : ℕ) (t : Contents) → dirs < 20000 → HasSamples seed dirs files t → HasParent t (dir_path dirs)
 dir_parent seed dirs files t few has = record {
   dir = sample_root;
   name = (dir_entry dirs).name;
@@ -97,7 +97,7 @@ dir_parent seed dirs files t few has = record {
   here = has.at_root;
 }
 
-pub file_parent : (seed dirs files : ℕ) (t : Told) → files < 20000 → files / 100 < dirs → HasSamples seed dirs files t → HasParent t (file_path files)
+pub file_parent : (seed dirs files : ℕ) (t : Contents) → files < 20000 → files / 100 < dirs → HasSamples seed dirs files t → HasParent t (file_path files)
 file_parent seed dirs files t few below has = record {
   dir = dir_path (files / 100);
   name = (file_entry files).name;
@@ -109,12 +109,12 @@ file_parent seed dirs files t few below has = record {
 below_or_last : (k n : ℕ) → k < n + 1 → (k < n) ⊎ (k ≡ n)
 below_or_last k n h = grind (arith, h)
 
--- no file is in a directory that comes behind them all
+-- no file is in a directory that comes after them all
 none_in : (files k : ℕ) → files ≤ 100 * k → files_in files k ≡ []
 none_in files k all = ap (range_with_len (100 * k)) (let e : files - 100 * k ≡ 0 = omega (arith, all) in ap (min 100) e)
 
 -- one more directory, for which there is no file yet
-pub dir_added : (seed dirs files : ℕ) (old new : Told) → dirs < 20000 → files < 20000 → files ≤ 100 * dirs → HasSamples seed dirs files old
+pub dir_added : (seed dirs files : ℕ) (old new : Contents) → dirs < 20000 → files < 20000 → files ≤ 100 * dirs → HasSamples seed dirs files old
     → Adds old new (dir_path dirs) Dir (Directory []) → HasSamples seed (dirs + 1) files new
 dir_added seed dirs files old new few many none has adds = record {
   at_root =
@@ -152,7 +152,7 @@ another files k apart = ap (range_with_len (100 * k)) (same_count files k apart)
     same_count files k apart = grind (arith, apart)
 
 -- one more file
-pub file_added : (seed dirs files : ℕ) (old new : Told) → dirs < 20000 → files < 20000 → files / 100 < dirs → HasSamples seed dirs files old
+pub file_added : (seed dirs files : ℕ) (old new : Contents) → dirs < 20000 → files < 20000 → files / 100 < dirs → HasSamples seed dirs files old
     → Adds old new (file_path files) File (Bytes (sample_bytes seed files)) → HasSamples seed dirs (files + 1) new
 file_added seed dirs files old new few many there has adds = record {
   at_root = stays sample_root (root_alone (dir_path (files / 100)) (file_entry files).name) (root_alone sample_root (dir_entry (files / 100)).name) ∙ has.at_root;

@@ -6,7 +6,7 @@ use Rattle.std.proofs.lemmas.List.FromFn.{map-range_with_len_more, get_or-map-ra
 use Rattle.std.proofs.lemmas.List.Concat.{flat_map-append}
 use Rattle.firefly_outside.specs.Samples.{word_number, sample_word, sample_line}
 
--- a word and the space behind it
+-- a word and the space after it
 abbrev pub spaced_word : ℕ → ℕ → ℕ → ℕ → List ℕ
 spaced_word seed file line q = sample_word (word_number seed file line q) ++ 32 ∷ []
 
@@ -25,7 +25,7 @@ flat_map-range_more f a n j same =
     ap (λ m. flat_map f (range_with_len a m)) e ∙ ap (flat_map f) (numbers_more a n j same) ∙ flat_map-append f (range_with_len a n) (j ∷ [])
     ∙ ap (λ l. flat_map f (range_with_len a n) ++ l) (append-nil (f j))
 
--- each with a space behind it and one more are all joined
+-- each with a space after it and one more are all joined
 pub spaced_joined : (f : ℕ → List ℕ) (a n : ℕ) → flat_map (λ q. f q ++ 32 ∷ []) (range_with_len a n) ++ f (a + n) ≡ join_with_byte 32 (map f (range_with_len a (suc n)))
 spaced_joined f a zero = ap f (omega arith)
 spaced_joined f a (suc n) =

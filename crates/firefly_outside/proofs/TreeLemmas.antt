@@ -9,7 +9,7 @@ use Rattle.std.proofs.lemmas.Bool.Decides.{Decides-eqb}
 use Rattle.std.proofs.lemmas.Slice.Eq.{slice_eq-Decides}
 use Rattle.std.proofs.lemmas.List.Elements.{Contains-push_cases, All-append, All-cons, All-nil}
 use Rattle.std.proofs.lemmas.List.Quantifiers.{all_pairs_push}
-use Rattle.firefly_outside.specs.Trees.{Path, Node, Directory, Bytes, Told, child, slash, with_last, IsName, AreEntries, IsChild, HasParent, IsBare, IsLeaf, Adds, Names, IsListing}
+use Rattle.firefly_outside.specs.Trees.{Path, Node, Directory, Bytes, Contents, child, slash, with_last, IsName, AreEntries, IsChild, HasParent, IsBare, IsLeaf, Adds, Names, IsListing}
 use Rattle.std.proofs.lemmas.List.{get_or_default}
 use Rattle.std.proofs.Math.Path.{fun_ext}
 use Rattle.std.specs.HashMap.{HashMap, IsReordered, IsClone}
@@ -17,7 +17,7 @@ use Rattle.std.specs.Map.{lookup}
 use Rattle.std.specs.List.{AllZip, list_any, each_same}
 use Rattle.std.specs.Bool.{Decides}
 use Rattle.std.proofs.lemmas.Map.Made.{is_member-Decides}
-use Rattle.firefly_outside.specs.MemTrees.{IsWhole, told_by, node_of}
+use Rattle.firefly_outside.specs.MemTrees.{IsWhole, reported_by, node_of}
 use Rattle.firefly_outside.specs.declared.place.Place.{Place}
 use Rattle.firefly_outside.specs.declared.tree.Entry.{Entry}
 use Rattle.firefly_outside.specs.declared.tree.Kind.{Kind}
@@ -38,13 +38,13 @@ path_test : (p q : Path) → p ≡ q → pointwise nat_eq p q ≡ true
 path_test p q same = elim (path_cases p q) [ inl t ↦ t.1 | inr f ↦ absurd (f.0 same) ]
 
 -- what one more child in the directory dir gives at dir
-at_parent : (old : Told) (dir name d n : Path) (kind : Kind) (es : List Entry) → dir ≡ d → name ≡ n → old d ≡ Some (Directory es)
+at_parent : (old : Contents) (dir name d n : Path) (kind : Kind) (es : List Entry) → dir ≡ d → name ≡ n → old d ≡ Some (Directory es)
     → (if pointwise nat_eq dir d then option_map (λ n. with_last n (record { name = name; kind = kind })) (old d) else old d) ≡ Some (Directory (es ++ record { name = n; kind = kind } ∷ []))
 at_parent old dir name d n kind es same called had =
     rw (path_test dir d same, had) (ap (λ m. Some (Directory (es ++ record { name = m; kind = kind } ∷ []))) called)
 
 -- a path with no directory stays as it is
-beside_parent : (old : Told) (dir q : Path) (e : Entry) → (dir ≡ q → (es : List Entry) → old q ≢ Some (Directory es))
+beside_parent : (old : Contents) (dir q : Path) (e : Entry) → (dir ≡ q → (es : List Entry) → old q ≢ Some (Directory es))
     → (if pointwise nat_eq dir q then option_map (λ n. with_last n e) (old q) else old q) ≡ old q
 beside_parent old dir q e none = elim (path_cases dir q) [
   | inl t ↦ rw t.1 (same_there (old q) (none t.0))
@@ -57,7 +57,7 @@ beside_parent old dir q e none = elim (path_cases dir q) [
     same_there (Some (Bytes bs)) h = refl
 
 -- what naming a child in the directory dir gives at each path
-pub Names-from_parent : (old new : Told) (path dir name : Path) (kind : Kind) → path ≡ child dir name → All (λ b. b ≢ slash) name
+pub Names-from_parent : (old new : Contents) (path dir name : Path) (kind : Kind) → path ≡ child dir name → All (λ b. b ≢ slash) name
     → ((q : Path) → new q ≡ (if pointwise nat_eq dir q then option_map (λ n. with_last n (record { name = name; kind = kind })) (old q) else old q))
     → Names old new path kind
 Names-from_parent old new path dir name kind is plain each = record {
@@ -69,14 +69,14 @@ Names-from_parent old new path dir name kind is plain each = record {
 }
 
 -- a path with no slash has no parent
-pub Names-from_none : (t : Told) (path : Path) (kind : Kind) → All (λ b. b ≢ slash) path → Names t t path kind
+pub Names-from_none : (t : Contents) (path : Path) (kind : Kind) → All (λ b. b ≢ slash) path → Names t t path kind
 Names-from_none t path kind plain = record {
   named = λ d n es same free had. absurd (plain-slash path d n same plain);
   others = λ q none. refl;
 }
 
 -- the node that is put at the path, over a tree in which its parent names it, is added
-pub Adds-from_names : (old mid new : Told) (path : Path) (kind : Kind) (node : Node) → IsBare old ⊎ HasParent old path → Names old mid path kind
+pub Adds-from_names : (old mid new : Contents) (path : Path) (kind : Kind) (node : Node) → IsBare old ⊎ HasParent old path → Names old mid path kind
     → ((q : Path) → new q ≡ (if pointwise nat_eq path q then Some node else mid q))
     → Adds old new path kind node
 Adds-from_names old mid new path kind node under names each = record {
@@ -101,17 +101,17 @@ Adds-from_names old mid new path kind node under names each = record {
         none name es (record { lawful = rw one.1 under.under.lawful; is = is }) had
 
 -- the entries of a directory of the new tree: none, those of the old one, or these and the path's
-data CameFrom (old : Told) (path : Path) (kind : Kind) (dir : Path) (es : List Entry) : Type 0 where
+data CameFrom (old : Contents) (path : Path) (kind : Kind) (dir : Path) (es : List Entry) : Type 0 where
   fresh : es ≡ [] → CameFrom old path kind dir es
   kept : old dir ≡ Some (Directory es) → CameFrom old path kind dir es
   more : (name : Path) (prefix : List Entry) → IsChild dir name path → old dir ≡ Some (Directory prefix) → es ≡ prefix ++ record { name = name; kind = kind } ∷ [] → CameFrom old path kind dir es
 
 -- at another path than the one added, what is there is the old, or the parent with one more entry
-data IsElsewhere (old new : Told) (path : Path) (kind : Kind) (q : Path) : Type 0 where
+data IsElsewhere (old new : Contents) (path : Path) (kind : Kind) (q : Path) : Type 0 where
   same : new q ≡ old q → IsElsewhere old new path kind q
   parent : (name : Path) (es : List Entry) → IsChild q name path → old q ≡ Some (Directory es) → new q ≡ Some (Directory (es ++ record { name = name; kind = kind } ∷ [])) → IsElsewhere old new path kind q
 
-elsewhere : (old new : Told) (path : Path) (kind : Kind) (node : Node) → Adds old new path kind node → IsBare old ⊎ HasParent old path → (q : Path) → q ≢ path → IsElsewhere old new path kind q
+elsewhere : (old new : Contents) (path : Path) (kind : Kind) (node : Node) → Adds old new path kind node → IsBare old ⊎ HasParent old path → (q : Path) → q ≢ path → IsElsewhere old new path kind q
 elsewhere old new path kind node adds (inl bare) q differs = same (adds.others q differs (λ name es is had. let bad : None ≡ Some (Directory es) = sym (bare q) ∙ had in cc))
 elsewhere old new path kind node adds (inr under) q differs = elim (path_cases under.dir q) [
   | inl t ↦
@@ -122,7 +122,7 @@ elsewhere old new path kind node adds (inr under) q differs = elim (path_cases u
       f.0 (child-unique under.dir q under.name name (sym under.under.is ∙ is.is) under.under.lawful.plain is.lawful.plain).0))
 ]
 
-came_from : (old new : Told) (path : Path) (kind : Kind) (node : Node) → IsBare old ⊎ HasParent old path → IsLeaf node → Adds old new path kind node
+came_from : (old new : Contents) (path : Path) (kind : Kind) (node : Node) → IsBare old ⊎ HasParent old path → IsLeaf node → Adds old new path kind node
     → (dir : Path) (es : List Entry) → new dir ≡ Some (Directory es) → CameFrom old path kind dir es
 came_from old new path kind node under leaf adds dir es has = elim (path_cases dir path) [
   | inl t ↦ fresh (no_entries node leaf (sym adds.added ∙ ap new (sym t.0) ∙ has))
@@ -140,7 +140,7 @@ came_from old new path kind node under leaf adds dir es has = elim (path_cases d
         more name prefix is had (sym e)
 
 -- what is there stays there
-stays_there : (old new : Told) (path : Path) (kind : Kind) (node : Node) → Adds old new path kind node → IsBare old ⊎ HasParent old path → (q : Path) → old q ≢ None → new q ≢ None
+stays_there : (old new : Contents) (path : Path) (kind : Kind) (node : Node) → Adds old new path kind node → IsBare old ⊎ HasParent old path → (q : Path) → old q ≢ None → new q ≢ None
 stays_there old new path kind node adds under q had = elim (path_cases q path) [
   | inl t ↦ λ gone. let bad : None ≡ Some node = sym gone ∙ ap new t.0 ∙ adds.added in cc
   | inr f ↦ others (elsewhere old new path kind node adds under q f.0)
@@ -151,7 +151,7 @@ stays_there old new path kind node adds under q had = elim (path_cases q path) [
     others (parent name es is was now) = λ gone. let bad : None ≡ Some (Directory (es ++ record { name = name; kind = kind } ∷ [])) = sym gone ∙ now in cc
 
 -- the entries with one for a path that isn't in the tree
-more_entries : (old : Told) (path dir name : Path) (kind : Kind) (prefix : List Entry) → IsWhole old → old path ≡ None → IsChild dir name path → old dir ≡ Some (Directory prefix)
+more_entries : (old : Contents) (path dir name : Path) (kind : Kind) (prefix : List Entry) → IsWhole old → old path ≡ None → IsChild dir name path → old dir ≡ Some (Directory prefix)
     → AreEntries (prefix ++ record { name = name; kind = kind } ∷ [])
 more_entries old path dir name kind prefix whole absent is had =
     let was : AreEntries prefix = whole.entries dir prefix had in
@@ -162,7 +162,7 @@ more_entries old path dir name kind prefix whole absent is had =
     }
 
 -- a tree to which a place without entries was added is whole
-pub IsWhole-add : (old new : Told) (path : Path) (kind : Kind) (node : Node) → IsWhole old → old path ≡ None → IsBare old ⊎ HasParent old path → IsLeaf node
+pub IsWhole-add : (old new : Contents) (path : Path) (kind : Kind) (node : Node) → IsWhole old → old path ≡ None → IsBare old ⊎ HasParent old path → IsLeaf node
     → Adds old new path kind node → IsWhole new
 IsWhole-add old new path kind node whole absent under leaf adds = record {
   entries = λ dir es has. lawful dir es (came_from old new path kind node under leaf adds dir es has);
@@ -183,8 +183,8 @@ IsWhole-add old new path kind node whole absent under leaf adds = record {
     ]
 
 -- the tree stays as it is where the map takes another order
-pub told_by-reordered : {S : Type 0} (m n : HashMap Path Place S) → IsReordered (pointwise nat_eq) m n → told_by n ≡ told_by m
-told_by-reordered m n r = fun_ext (λ q. ap (option_map node_of) (r.2 q))
+pub reported_by-reordered : {S : Type 0} (m n : HashMap Path Place S) → IsReordered (pointwise nat_eq) m n → reported_by n ≡ reported_by m
+reported_by-reordered m n r = fun_ext (λ q. ap (option_map node_of) (r.2 q))
 
 -- look-ups over entries that are clones one by one
 lookup-clones : (es fs : List (Path × Place)) (q : Path) → AllZip (λ x y. (y.0 ≡ x.0) × (node_of y.1 ≡ node_of x.1)) es fs
@@ -200,15 +200,15 @@ lookup-clones (e ∷ es) (f ∷ fs) q h = rw h.0.0 (at (pointwise nat_eq q e.0) 
     at false rest = rest
 
 -- the tree of a map's clone
-pub told_by-clone : {S : Type 0} (m n : HashMap Path Place S) → IsClone (λ x y. y ≡ x) (λ x y. node_of y ≡ node_of x) m n → told_by n ≡ told_by m
-told_by-clone m n h = fun_ext (λ q. lookup-clones m.entries n.entries q h)
+pub reported_by-clone : {S : Type 0} (m n : HashMap Path Place S) → IsClone (λ x y. y ≡ x) (λ x y. node_of y ≡ node_of x) m n → reported_by n ≡ reported_by m
+reported_by-clone m n h = fun_ext (λ q. lookup-clones m.entries n.entries q h)
 
 -- what `contains` answers of paths
 pub list_any-Decides : (ps : List Path) (p : Path) → Decides (list_any (λ q. pointwise nat_eq q p) ps) (Contains ps p)
 list_any-Decides ps p = is_member-Decides {eq = λ a b. pointwise nat_eq b a} (λ a b. let d = slice_eq-Decides Decides-eqb b a (pointwise nat_eq b a) refl in (λ t. sym (d.0 t), λ e. d.1 (sym e))) ps p
 
 -- the entries that a directory's copy shows
-pub IsListing-copy : (t : Told) (dir : Path) (es copy : List Entry) → IsWhole t → t dir ≡ Some (Directory es) → AllZip (λ x y. y ≡ x) es copy → AreEntries copy × IsListing t dir copy
+pub IsListing-copy : (t : Contents) (dir : Path) (es copy : List Entry) → IsWhole t → t dir ≡ Some (Directory es) → AllZip (λ x y. y ≡ x) es copy → AreEntries copy × IsListing t dir copy
 IsListing-copy t dir es copy whole here zipped =
     let same : copy ≡ es = each_same es copy zipped in (
       subst AreEntries (sym same) (whole.entries dir es here),

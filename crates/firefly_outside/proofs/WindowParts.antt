@@ -18,7 +18,7 @@ pub part-grow : (buf old : List ℕ) (kept n most : ℕ) (left left' : Option (L
     → Consumes left left' (take n (drop kept buf)) × (n ≡ 0 → 0 < length (drop kept buf) → IsAtEnd left') → Takes most left left' old (take (kept + n - 0) (drop 0 buf)) n
 part-grow buf old kept n most left left' prefix within some bounded bytes = record {
   piece = take n (drop kept buf);
-  behind =
+  following =
       let e : kept + n - 0 ≡ kept + n = omega arith in
       ap (λ m. take m buf) e ∙ take-add kept n buf ∙ ap (λ l. l ++ take n (drop kept buf)) prefix;
   consumed = bytes.0;

@@ -1,7 +1,7 @@
 -- The sample tree: what a seed and a number of files give.
 use Rattle.std.specs.Prelude.{◌≡◌, ◌≢◌, ℕ, ◌+◌, ◌-◌, ◌*◌, ◌/◌, ◌%◌, ◌<◌, List, [], ◌∷◌, ◌++◌, map, min, Some, None, codes, decimal}
 use Rattle.std.specs.List.{flat_map, range_with_len, join_with_byte}
-use Rattle.firefly_outside.specs.Trees.{Path, Told, Directory, Bytes, child}
+use Rattle.firefly_outside.specs.Trees.{Path, Contents, Directory, Bytes, child}
 use Rattle.firefly_outside.specs.declared.tree.Entry.{Entry}
 use Rattle.firefly_outside.specs.declared.tree.Kind.TheVariants.{File, Dir}
 
@@ -50,7 +50,7 @@ abbrev pub files_in : ℕ → ℕ → List ℕ
 files_in files k = range_with_len (100 * k) (min 100 (files - 100 * k))
 
 -- the tree has the root, so many directories and so many files, all in the order of their numbers, and nothing else
-pub record HasSamples (seed dirs files : ℕ) (t : Told) : Type 0 where
+pub record HasSamples (seed dirs files : ℕ) (t : Contents) : Type 0 where
   pub at_root : t sample_root ≡ Some (Directory (map dir_entry (range_with_len 0 dirs)))
   pub at_dirs : (k : ℕ) → k < dirs → t (dir_path k) ≡ Some (Directory (map file_entry (files_in files k)))
   pub at_files : (i : ℕ) → i < files → t (file_path i) ≡ Some (Bytes (sample_bytes seed i))
@@ -58,5 +58,5 @@ pub record HasSamples (seed dirs files : ℕ) (t : Told) : Type 0 where
       → t q ≡ None
 
 -- the sample tree of so many files
-abbrev pub IsSampleTree : ℕ → ℕ → Told → Type 0
+abbrev pub IsSampleTree : ℕ → ℕ → Contents → Type 0
 IsSampleTree seed files t = HasSamples seed (dir_count files) files t

@@ -3,12 +3,12 @@ use Rattle.std.specs.Prelude.{◌≡◌, ℕ, List, [], ◌++◌, ◌∷◌, ◌
 use Rattle.firefly_outside.specs.Causes.{Rose}
 use Rattle.firefly_outside.specs.declared.tree.TreeError.{TreeError}
 use Rattle.firefly_outside.specs.declared.tree.TreeError.TheVariants.{Memory, Failed}
-use Rattle.firefly_outside.specs.Trees.{Path, Told, Calls}
-use Rattle.firefly_outside.specs.MemTrees.{told_by}
+use Rattle.firefly_outside.specs.Trees.{Path, Contents, Calls}
+use Rattle.firefly_outside.specs.MemTrees.{reported_by}
 use Rattle.firefly_outside.specs.declared.mem_tree.MemTree.{MemTree}
 
-abbrev pub tree_of : MemTree → Told
-tree_of m = told_by m.places
+abbrev pub tree_of : MemTree → Contents
+tree_of m = reported_by m.places
 
 -- the paths that are to fail
 abbrev pub weak_of : MemTree → List Path

@@ -16,8 +16,8 @@ pub data Node : Type 0 where
   Bytes : List ℕ → Node
 
 -- a tree as it is shown: what is at each path
-abbrev pub Told : Type 0
-Told = Path → Option Node
+abbrev pub Contents : Type 0
+Contents = Path → Option Node
 
 -- a directory with one more entry, last; a file stays as it is
 abbrev pub with_last : Node → Entry → Node
@@ -43,7 +43,7 @@ pub record AreEntries (es : List Entry) : Type 0 where
   pub distinct : AllPairs (λ e f. e.name ≢ f.name) es
 
 -- the tree has a directory at the path, and es are its entries in some order
-pub record IsListing (t : Told) (dir : Path) (es : List Entry) : Type 0 where
+pub record IsListing (t : Contents) (dir : Path) (es : List Entry) : Type 0 where
   pub entries : List Entry
   pub here : t dir ≡ Some (Directory entries)
   pub same : (e : Entry) → Contains es e ↔ Contains entries e
@@ -62,7 +62,7 @@ pub record IsShown (bs : List ℕ) (file : FileBytes) : Type 0 where
   pub bytes : file.bytes.items ≡ (if is_long bs then [] else bs)
 
 -- the tree has a file at the path, and shows it so
-pub record IsFile (t : Told) (path : Path) (file : FileBytes) : Type 0 where
+pub record IsFile (t : Contents) (path : Path) (file : FileBytes) : Type 0 where
   pub bytes : List ℕ
   pub here : t path ≡ Some (Bytes bytes)
   pub shown : IsShown bytes file
@@ -79,13 +79,13 @@ pub record IsFault (weak : List Path) (path : Path) (IsThere : Type 0) (old new 
   pub may : Contains weak path ⊎ ¬ IsThere
 
 -- what a listing answers, with the calls before and after it
-abbrev pub Lists : {V : Type 0} → (V → List Entry) → List Path → Path → Calls → Calls → Result V TreeError → Told → Type 0
+abbrev pub Lists : {V : Type 0} → (V → List Entry) → List Path → Path → Calls → Calls → Result V TreeError → Contents → Type 0
 Lists items weak dir old new (Ok v) t = IsListing t dir (items v) × (new ≡ record old { listed = old.listed ++ dir ∷ [] })
 Lists items weak dir old new (Err Memory) t = new ≡ old
 Lists items weak dir old new (Err Failed) t = IsFault weak dir ((es : List Entry) × (t dir ≡ Some (Directory es))) old new
 
 -- what a read answers, with the calls before and after it
-abbrev pub Reads : List Path → Path → Calls → Calls → Result FileBytes TreeError → Told → Type 0
+abbrev pub Reads : List Path → Path → Calls → Calls → Result FileBytes TreeError → Contents → Type 0
 Reads weak path old new (Ok file) t = IsFile t path file × (new ≡ record old { files_read = old.files_read ++ path ∷ [] })
 Reads weak path old new (Err Memory) t = new ≡ old
 Reads weak path old new (Err Failed) t = IsFault weak path ((bs : List ℕ) × (t path ≡ Some (Bytes bs))) old new
@@ -107,7 +107,7 @@ pub record IsChild (dir name path : Path) : Type 0 where
   pub is : path ≡ child dir name
 
 -- the path's parent is a directory of the tree
-pub record HasParent (t : Told) (path : Path) : Type 0 where
+pub record HasParent (t : Contents) (path : Path) : Type 0 where
   pub dir : Path
   pub name : Path
   pub under : IsChild dir name path
@@ -115,14 +115,14 @@ pub record HasParent (t : Told) (path : Path) : Type 0 where
   pub here : t dir ≡ Some (Directory entries)
 
 -- in the new tree the directory before the path's last slash, if there is one, names it last; all else is as in the old
-pub record Names (old new : Told) (path : Path) (kind : Kind) : Type 0 where
+pub record Names (old new : Contents) (path : Path) (kind : Kind) : Type 0 where
   pub named : (dir name : Path) (es : List Entry) → path ≡ child dir name → All (λ b. b ≢ slash) name → old dir ≡ Some (Directory es)
       → new dir ≡ Some (Directory (es ++ record { name = name; kind = kind } ∷ []))
   pub others : (q : Path) → ((name : Path) (es : List Entry) → path ≡ child q name → All (λ b. b ≢ slash) name
       → old q ≢ Some (Directory es)) → new q ≡ old q
 
 -- nothing is in the tree
-abbrev pub IsBare : Told → Type 0
+abbrev pub IsBare : Contents → Type 0
 IsBare t = (q : Path) → t q ≡ None
 
 -- a directory without entries, or a file
@@ -131,7 +131,7 @@ IsLeaf (Directory entries) = entries ≡ []
 IsLeaf (Bytes bytes) = Unit {0}
 
 -- the new tree has this node at the path, and its parent names it last; all else is as in the old
-pub record Adds (old new : Told) (path : Path) (kind : Kind) (node : Node) : Type 0 where
+pub record Adds (old new : Contents) (path : Path) (kind : Kind) (node : Node) : Type 0 where
   pub added : new path ≡ Some node
   pub named : (dir name : Path) (es : List Entry) → IsChild dir name path → old dir ≡ Some (Directory es)
       → new dir ≡ Some (Directory (es ++ record { name = name; kind = kind } ∷ []))

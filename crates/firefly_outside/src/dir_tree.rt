@@ -30,7 +30,7 @@ impl<R: Files + AllocGlobal + Clone + Drop> DirTree<R> {
 }
 
 // Counts a failure, and not that memory ran out.
-fn noted<T>(faults: &mut u64, answer: Result<T, TreeError>) -> Result<T, TreeError>
+fn note_fault<T>(faults: &mut u64, answer: Result<T, TreeError>) -> Result<T, TreeError>
     ensures same { result ≡ answer }
     ensures count { Counts faults.old faults.new result }
 {
@@ -210,10 +210,10 @@ impl<R: Files + AllocGlobal + Clone + Drop + Send> Tree for DirTree<R> {
     ghost faults = { λ t. t.faults };
 
     fn list(&mut self, alloc: Global, dir: &str) -> Result<Vec<Entry>, TreeError> {
-        noted(&mut self.faults, list_entries(&self.files, alloc, dir))
+        note_fault(&mut self.faults, list_entries(&self.files, alloc, dir))
     }
 
     fn read(&mut self, alloc: Global, path: &str) -> Result<FileBytes, TreeError> {
-        noted(&mut self.faults, read_bytes(&self.files, alloc, path))
+        note_fault(&mut self.faults, read_bytes(&self.files, alloc, path))
     }
 }

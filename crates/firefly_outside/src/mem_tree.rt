@@ -1,5 +1,5 @@
 //! A tree in memory.
-ghost use Rattle.firefly_outside.specs.MemTrees.{told_by, IsWhole};
+ghost use Rattle.firefly_outside.specs.MemTrees.{reported_by, IsWhole};
 
 use crate::place::{Place, Places, add_place, copy_of, may_add};
 use crate::tree::shown;
@@ -16,7 +16,7 @@ pub struct MemTree {
     files_read: Vec<Text>,
     failed: Vec<Text>,
     faults: u64,
-    ghost whole: { IsWhole (told_by places) },
+    ghost whole: { IsWhole (reported_by places) },
 }
 
 impl MemTree {
@@ -174,7 +174,7 @@ impl Tree for MemTree {
         ensures weak_stays { weak_of self.new ≡ weak_of self.old }
         ensures count { Counts (faults_of self.old) (faults_of self.new) result }
         ensures lawful { IfOk result (λ v. AreEntries v.items) }
-        ensures told { Lists (λ v. v.items) (weak_of self.old) dir.now (calls_of self.old) (calls_of self.new) result (tree_of self.old) }
+        ensures reported { Lists (λ v. v.items) (weak_of self.old) dir.now (calls_of self.old) (calls_of self.new) result (tree_of self.old) }
         ensures exact { IfOk result (λ _. ¬ Contains (weak_of self.old) dir.now) }
     {
         let Ok(path) = Text::of(alloc, dir) else {
@@ -200,7 +200,7 @@ impl Tree for MemTree {
         ensures weak_stays { weak_of self.new ≡ weak_of self.old }
         ensures count { Counts (faults_of self.old) (faults_of self.new) result }
         ensures lawful { IfOk result IsWithin }
-        ensures told { Reads (weak_of self.old) path.now (calls_of self.old) (calls_of self.new) result (tree_of self.old) }
+        ensures reported { Reads (weak_of self.old) path.now (calls_of self.old) (calls_of self.new) result (tree_of self.old) }
         ensures exact { IfOk result (λ _. ¬ Contains (weak_of self.old) path.now) }
     {
         let Ok(path) = Text::of(alloc, path) else {

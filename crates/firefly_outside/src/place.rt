@@ -4,9 +4,9 @@ ghost use Rattle.std.specs.Option.{option_map};
 ghost use Rattle.std.specs.Cmp.Lexicographic.{pointwise};
 ghost use Rattle.std.specs.Bool.{nat_eq};
 ghost use Rattle.std.specs.HashMap.{spare};
-ghost use Rattle.firefly_outside.specs.Trees.{Path, Told, with_last, Names, Adds, IsBare, HasParent, IsLeaf, Directory};
+ghost use Rattle.firefly_outside.specs.Trees.{Path, Contents, with_last, Names, Adds, IsBare, HasParent, IsLeaf, Directory};
 ghost use Rattle.firefly_outside.specs.declared.tree.Entry.{Entry};
-ghost use Rattle.firefly_outside.specs.MemTrees.{node_of, told_by, IsWhole};
+ghost use Rattle.firefly_outside.specs.MemTrees.{node_of, reported_by, IsWhole};
 
 use crate::paths::split_last;
 use crate::{Entry, Kind, Text};
@@ -56,9 +56,9 @@ fn push_entry(place: &mut Place, entry: Entry) -> Result<(), AllocError>
 
 // Names one more child of the directory at this path, if there is one.
 pub fn name_child(places: &mut Places, dir: &Text, entry: Entry) -> Result<(), AllocError>
-    ensures ok { OnOk result ((q : Path) → told_by places.new q ≡
-        (if pointwise nat_eq dir.now q then option_map (λ n. with_last n entry) (told_by places.old q) else told_by places.old q)) }
-    ensures err { OnErr result ((q : Path) → told_by places.new q ≡ told_by places.old q) }
+    ensures ok { OnOk result ((q : Path) → reported_by places.new q ≡
+        (if pointwise nat_eq dir.now q then option_map (λ n. with_last n entry) (reported_by places.old q) else reported_by places.old q)) }
+    ensures err { OnErr result ((q : Path) → reported_by places.new q ≡ reported_by places.old q) }
     ensures spare { spare places.new ≡ spare places.old }
 {
     match places.get_mut(dir) {
@@ -74,8 +74,8 @@ fn name_in_parent(
     path: &str,
     kind: Kind,
 ) -> Result<(), AllocError>
-    ensures ok { OnOk result (Names (told_by places.old) (told_by places.new) path.now kind) }
-    ensures err { OnErr result ((q : Path) → told_by places.new q ≡ told_by places.old q) }
+    ensures ok { OnOk result (Names (reported_by places.old) (reported_by places.new) path.now kind) }
+    ensures err { OnErr result ((q : Path) → reported_by places.new q ≡ reported_by places.old q) }
     ensures spare { spare places.new ≡ spare places.old }
 {
     if let Some((dir, name)) = split_last(path) {
@@ -94,13 +94,13 @@ pub fn add_place(
     kind: Kind,
     place: Place,
 ) -> Result<(), AllocError>
-    requires absent { told_by places.old path.now ≡ None }
-    requires parent { IsBare (told_by places.old) ⊎ HasParent (told_by places.old) path.now }
+    requires absent { reported_by places.old path.now ≡ None }
+    requires parent { IsBare (reported_by places.old) ⊎ HasParent (reported_by places.old) path.now }
     requires leaf { IsLeaf (node_of place) }
-    requires whole { IsWhole (told_by places.old) }
-    ensures ok { OnOk result (Adds (told_by places.old) (told_by places.new) path.now kind (node_of place)) }
-    ensures err { OnErr result (told_by places.new ≡ told_by places.old) }
-    ensures whole { IsWhole (told_by places.new) }
+    requires whole { IsWhole (reported_by places.old) }
+    ensures ok { OnOk result (Adds (reported_by places.old) (reported_by places.new) path.now kind (node_of place)) }
+    ensures err { OnErr result (reported_by places.new ≡ reported_by places.old) }
+    ensures whole { IsWhole (reported_by places.new) }
 {
     let key = Text::of(alloc, path)?;
     places.reserve(1)?;
@@ -112,7 +112,7 @@ pub fn add_place(
 // Puts a place for which there is room.
 fn put_place(places: &mut Places, key: Text, place: Place)
     requires { 0 < spare places.old }
-    ensures { (q : Path) → told_by places.new q ≡ (if pointwise nat_eq key q then Some (node_of place) else told_by places.old q) }
+    ensures { (q : Path) → reported_by places.new q ≡ (if pointwise nat_eq key q then Some (node_of place) else reported_by places.old q) }
 {
     match places.insert(key, place) {
         Ok(_) => {}
@@ -122,7 +122,7 @@ fn put_place(places: &mut Places, key: Text, place: Place)
 
 /// A copy that makes the same tree.
 pub fn copy_of(places: &Places) -> Result<Places, AllocError>
-    ensures { IfOk result (λ copy. told_by copy ≡ told_by places.now) }
+    ensures { IfOk result (λ copy. reported_by copy ≡ reported_by places.now) }
 {
     let copy = places.clone()?;
     Ok(copy)
@@ -130,7 +130,7 @@ pub fn copy_of(places: &Places) -> Result<Places, AllocError>
 
 /// Whether a place may be added at this path: nothing is there, and its parent is a directory.
 pub fn may_add(places: &Places, alloc: Global, path: &str) -> Result<bool, AllocError>
-    ensures { IfOk result (λ b. IsTrue b ↔ (told_by places.now path.now ≡ None) × HasParent (told_by places.now) path.now) }
+    ensures { IfOk result (λ b. IsTrue b ↔ (reported_by places.now path.now ≡ None) × HasParent (reported_by places.now) path.now) }
 {
     let key = Text::of(alloc, path)?;
     if places.contains_key(&key) {
@@ -145,7 +145,7 @@ pub fn may_add(places: &Places, alloc: Global, path: &str) -> Result<bool, Alloc
 // Whether the directory is there and the name is one.
 fn has_child(places: &Places, alloc: Global, dir: &str, name: &str) -> Result<bool, AllocError>
     ensures { IfOk result (λ b. IsTrue b ↔ (0 < length name.now)
-        × ((es : List Entry) × (told_by places.now dir.now ≡ Some (Directory es)))) }
+        × ((es : List Entry) × (reported_by places.now dir.now ≡ Some (Directory es)))) }
 {
     if name.is_empty() {
         return Ok(false);

@@ -50,10 +50,10 @@ pub enum TreeError {
 
 /// Directories and files by their paths. A child's path is the directory's path, `/` and the child's name.
 pub trait Tree: Send + Drop {
-    ghost use Rattle.firefly_outside.specs.Trees.{Told, Path, Calls, Lists, Reads, AreEntries, IsWithin, Counts};
+    ghost use Rattle.firefly_outside.specs.Trees.{Contents, Path, Calls, Lists, Reads, AreEntries, IsWithin, Counts};
 
     /// What is at each path, where the tree shows it.
-    ghost tree: { Self → Option Told };
+    ghost tree: { Self → Option Contents };
 
     /// The paths listed, read and failed, where the tree shows its contents.
     ghost calls: { Self → Calls };
@@ -70,7 +70,7 @@ pub trait Tree: Send + Drop {
         ensures weak_stays { may_fail self.new ≡ may_fail self.old }
         ensures count { Counts (faults self.old) (faults self.new) result }
         ensures lawful { IfOk result (λ v. AreEntries v.items) }
-        ensures told { IfSome (tree self.old) (Lists (λ v. v.items) (may_fail self.old) dir.now (calls self.old) (calls self.new) result) };
+        ensures reported { IfSome (tree self.old) (Lists (λ v. v.items) (may_fail self.old) dir.now (calls self.old) (calls self.new) result) };
 
     /// Gives the bytes of a file, or says that it is too long.
     fn read(&mut self, alloc: Global, path: &str) -> Result<FileBytes, TreeError>
@@ -78,7 +78,7 @@ pub trait Tree: Send + Drop {
         ensures weak_stays { may_fail self.new ≡ may_fail self.old }
         ensures count { Counts (faults self.old) (faults self.new) result }
         ensures lawful { IfOk result IsWithin }
-        ensures told { IfSome (tree self.old) (Reads (may_fail self.old) path.now (calls self.old) (calls self.new) result) };
+        ensures reported { IfSome (tree self.old) (Reads (may_fail self.old) path.now (calls self.old) (calls self.new) result) };
 }
 
 /// The most bytes of a file that is shown.

@@ -72,7 +72,7 @@ impl Window {
         to_front(&mut self.buf, self.start, self.end);
         self.start = 0;
         self.end = kept;
-        let count = read_behind(input, &mut self.buf, kept, most)?;
+        let count = read_after(input, &mut self.buf, kept, most)?;
         self.end = kept + count;
         Ok(count)
     }
@@ -88,7 +88,7 @@ fn to_front(buf: &mut [u8], start: usize, end: usize)
 }
 
 // Reads at most so many bytes to the place after the first ones.
-fn read_behind<I: Source>(
+fn read_after<I: Source>(
     input: &mut I,
     buf: &mut [u8],
     kept: usize,

@@ -6,8 +6,8 @@
 //! that any does.
 #![tactic(auto)]
 
-mod freeing;
-mod taking;
+mod clear_bit;
+mod take_bit;
 
-pub use freeing::free;
-pub use taking::{enqueue_and_sleep, take, take_quiet, try_take};
+pub use clear_bit::free;
+pub use take_bit::{enqueue_and_sleep, take, take_quiet, try_take};

@@ -9,10 +9,10 @@ use Rattle.index_find.specs.Answers.{IsAnswer}
 use lib.Dec.{eqb-suc-zero}
 use Rattle.index_find.specs.Tree.{Tree}
 use Rattle.index_find.specs.declared.query.Step.{Step}
-use Rattle.index_find.specs.declared.taking.Pending.{Pending}
+use Rattle.index_find.specs.declared.tokens.Pending.{Pending}
 use Rattle.index_find.specs.Grammar.{Token, Whole, Spells, Reads, IsReading}
 use Rattle.index_find.specs.Postfix.{postfix, tree_of}
-use Rattle.index_find.specs.Taking.{State, Before, Behind, pending_joined, steps_joined, alone, took, ran, finished, Takes}
+use Rattle.index_find.specs.Taking.{State, Before, Past, pending_joined, steps_joined, alone, took, ran, finished, Takes}
 use Rattle.index_find.proofs.Postfixes.{tree_of-postfix}
 use Rattle.index_find.proofs.Driven.{finishes, one_tree}
 use Rattle.index_find.proofs.Sound.{spelt}
@@ -35,7 +35,7 @@ one_more : (o : Option State) → option_and_then (λ (s : State). Some s) o ≡
 one_more None = refl
 one_more (Some s) = refl
 
--- one token more behind those that led to s
+-- one token more after those that led to s
 pub ran-push : (xs : List Token) (w : Token) (s : State) (o : Option State) → ran (Before [] []) xs ≡ Some s → took s w ≡ o → ran (Before [] []) (xs ++ w ∷ []) ≡ o
 ran-push xs w s o e f =
     ran-append xs (w ∷ []) (Before [] [])
@@ -64,10 +64,10 @@ pub record IsRead (ts : List Token) (ss : List Step) : Type 0 where
   pub reading : IsReading ts (tree_of ss)
   pub whole : ss ≡ postfix (tree_of ss)
 
-pub read : (ts : List Token) (ps : List Pending) (us ss : List Step) → length ts ≤ 64 → ran (Before [] []) ts ≡ Some (Behind ps us) → pending_joined ps ≡ [] → ss ≡ steps_joined ps us → IsRead ts ss
+pub read : (ts : List Token) (ps : List Pending) (us ss : List Step) → length ts ≤ 64 → ran (Before [] []) ts ≡ Some (Past ps us) → pending_joined ps ≡ [] → ss ≡ steps_joined ps us → IsRead ts ss
 read ts ps us ss few e none is =
-    let done : finished (Behind ps us) ≡ Some ss = ap (λ (x : List Pending). alone x (steps_joined ps us)) none ∙ ap Some (sym is) in
-    let s = spelt ts (Behind ps us) ss e done in
+    let done : finished (Past ps us) ≡ Some ss = ap (λ (x : List Pending). alone x (steps_joined ps us)) none ∙ ap Some (sym is) in
+    let s = spelt ts (Past ps us) ss e done in
     let same : tree_of ss ≡ s.tree = ap tree_of s.steps ∙ tree_of-postfix s.tree in
     record {
       reading = record {
@@ -114,6 +114,6 @@ left_some [] e = absurd (false≢true (sym e))
 left_some (p ∷ items) e = omega arith
 
 -- something is open at the end
-pub left_open : (ps items : List Pending) (us : List Step) → reverse items ≡ pending_joined ps → (length items == 0) ≡ false → finished (Behind ps us) ≡ None
+pub left_open : (ps items : List Pending) (us : List Step) → reverse items ≡ pending_joined ps → (length items == 0) ≡ false → finished (Past ps us) ≡ None
 left_open ps items us e h =
     ap (λ (x : List Pending). alone x (steps_joined ps us)) (sym e) ∙ not_alone (reverse items) (steps_joined ps us) (rw length-reverse (left_some items h))

@@ -7,17 +7,17 @@ use Rattle.std.specs.Cmp.Lexicographic.{bytes_decides}
 use Rattle.index_find.specs.Tree.{Tree, Word, Not, Both, Either}
 use Rattle.index_find.specs.declared.query.Step.{Step}
 use Rattle.index_find.specs.declared.query.Step.TheVariants as step
-use Rattle.index_find.specs.declared.taking.Pending.{Pending}
-use Rattle.index_find.specs.declared.taking.Pending.TheVariants as pending
+use Rattle.index_find.specs.declared.tokens.Pending.{Pending}
+use Rattle.index_find.specs.declared.tokens.Pending.TheVariants as pending
 use Rattle.index_find.specs.declared.token.Kind.{Kind}
 use Rattle.index_find.specs.declared.token.Kind.TheVariants as kind
 use Rattle.index_find.specs.Grammar.{Token, is_word, Level, Term, Part, Whole, Spells, word, negated, grouped, one_term, both, one_part, either}
 use Rattle.index_find.specs.Postfix.{postfix}
 use Rattle.index_find.specs.Kinds.{kind_of}
-use Rattle.index_find.specs.Taking.{State, Before, Behind, ended, pending_joined, steps_joined, closed, alone, before_term, behind_term, took, ran, finished}
+use Rattle.index_find.specs.Taking.{State, Before, Past, ended, pending_joined, steps_joined, closed, alone, before_term, after_term, took, ran, finished}
 use Rattle.index_find.proofs.Driven.{IsPartStart, IsWholeStart}
 
--- such tokens, behind those of what is pending
+-- such tokens, after those of what is pending
 pub record Stands (l : Level) (Under : List Token → List Step → Type 0) (xs : List Token) (ss : List Step) : Type 0 where
   pub ys : List Token
   pub zs : List Token
@@ -44,7 +44,7 @@ Under (pending.Either ∷ ps) xs ss = IsWholeStart ps × Joins Whole (codes "|")
 
 abbrev pub Reached : State → List Token → Type 0
 Reached (Before ps ss) xs = Under ps xs ss
-Reached (Behind ps ss) xs = IsPartStart ps × Stands Part (Under ps) xs ss
+Reached (Past ps ss) xs = IsPartStart ps × Stands Part (Under ps) xs ss
 
 abbrev pub ReachedWhole : List Pending → List Step → List Token → Type 0
 ReachedWhole ps ss xs = IsWholeStart ps × Stands Whole (Under ps) xs ss
@@ -93,7 +93,7 @@ ends (pending.Both ∷ ps) ys zs us t u h =
 whole : (ps : List Pending) (xs : List Token) (ss : List Step) → Stands Part (Under ps) xs ss → Stands Whole (Under ps) xs ss
 whole ps xs ss r = record { ys = r.ys; zs = r.zs; us = r.us; tree = r.tree; under = r.under; spells = one_part r.zs r.tree r.spells; tokens = r.tokens; steps = r.steps }
 
-joins : (ps : List Pending) (ss : List Step) (xs : List Token) → Reached (Behind ps ss) xs → ReachedWhole (pending_joined ps) (steps_joined ps ss) xs
+joins : (ps : List Pending) (ss : List Step) (xs : List Token) → Reached (Past ps ss) xs → ReachedWhole (pending_joined ps) (steps_joined ps ss) xs
 joins [] ss xs r = (tt, whole [] xs ss r.1)
 joins (pending.Open ∷ ps) ss xs r = (tt, whole (pending.Open ∷ ps) xs ss r.1)
 joins (pending.Not ∷ ps) ss xs r = absurd r.0
@@ -176,20 +176,20 @@ closing (pending.Open ∷ ps) ss xs w s k r e =
 joining : (l : Level) (mark w : Token) (ps : List Pending) (ss : List Step) (xs : List Token) → w ≡ mark → Stands l (Under ps) xs ss → Joins l mark (Under ps) (xs ++ w ∷ []) ss
 joining l mark w ps ss xs k r = record { prefix = xs; stands = r; tokens = ap (λ (t : Token). xs ++ t ∷ []) k }
 
-takes-behind : (k : Kind) (w : Token) (ps : List Pending) (ss : List Step) (xs : List Token) (s : State) → Kinded k w → Reached (Behind ps ss) xs → behind_term k ps ss ≡ Some s → Reached s (xs ++ w ∷ [])
-takes-behind kind.Both w ps ss xs s k r e = at_state (Before (pending.Both ∷ ps) ss) s (xs ++ w ∷ []) e (r.0, joining Part (codes "&") w ps ss xs k r.1)
-takes-behind kind.Either w ps ss xs s k r e =
+takes-following : (k : Kind) (w : Token) (ps : List Pending) (ss : List Step) (xs : List Token) (s : State) → Kinded k w → Reached (Past ps ss) xs → after_term k ps ss ≡ Some s → Reached s (xs ++ w ∷ [])
+takes-following kind.Both w ps ss xs s k r e = at_state (Before (pending.Both ∷ ps) ss) s (xs ++ w ∷ []) e (r.0, joining Part (codes "&") w ps ss xs k r.1)
+takes-following kind.Either w ps ss xs s k r e =
     let q = joins ps ss xs r in
     at_state (Before (pending.Either ∷ pending_joined ps) (steps_joined ps ss)) s (xs ++ w ∷ []) e (q.0, joining Whole (codes "|") w (pending_joined ps) (steps_joined ps ss) xs k q.1)
-takes-behind kind.Close w ps ss xs s k r e = closing (pending_joined ps) (steps_joined ps ss) xs w s k (joins ps ss xs r) e
-takes-behind kind.Word w ps ss xs s k r e = absurd (none_some e)
-takes-behind kind.Not w ps ss xs s k r e = absurd (none_some e)
-takes-behind kind.Open w ps ss xs s k r e = absurd (none_some e)
-takes-behind kind.Other w ps ss xs s k r e = absurd (none_some e)
+takes-following kind.Close w ps ss xs s k r e = closing (pending_joined ps) (steps_joined ps ss) xs w s k (joins ps ss xs r) e
+takes-following kind.Word w ps ss xs s k r e = absurd (none_some e)
+takes-following kind.Not w ps ss xs s k r e = absurd (none_some e)
+takes-following kind.Open w ps ss xs s k r e = absurd (none_some e)
+takes-following kind.Other w ps ss xs s k r e = absurd (none_some e)
 
 taking : (s : State) (w : Token) (xs : List Token) (t : State) → Reached s xs → took s w ≡ Some t → Reached t (xs ++ w ∷ [])
 taking (Before ps ss) w xs t r e = takes-before (kind_of w) w ps ss xs t (kinded w) r e
-taking (Behind ps ss) w xs t r e = takes-behind (kind_of w) w ps ss xs t (kinded w) r e
+taking (Past ps ss) w xs t r e = takes-following (kind_of w) w ps ss xs t (kinded w) r e
 
 -- what a state and a list of tokens lead to
 next : (o : Option State) (ws : List Token) (t : State) → option_and_then (λ (s : State). ran s ws) o ≡ Some t → (s : State) × (o ≡ Some s) × (ran s ws ≡ Some t)
@@ -220,7 +220,7 @@ last_alone [] us ss xs r e =
 
 last_finished : (s : State) (ss : List Step) (xs : List Token) → Reached s xs → finished s ≡ Some ss → Spelt xs ss
 last_finished (Before ps us) ss xs r e = absurd (none_some e)
-last_finished (Behind ps us) ss xs r e = last_alone (pending_joined ps) (steps_joined ps us) ss xs (joins ps us xs r) e
+last_finished (Past ps us) ss xs r e = last_alone (pending_joined ps) (steps_joined ps us) ss xs (joins ps us xs r) e
 
 pub spelt : (ts : List Token) (s : State) (ss : List Step) → ran (Before [] []) ts ≡ Some s → finished s ≡ Some ss → Spelt ts ss
 spelt ts s ss e f = last_finished s ss ts (running ts (Before [] []) s [] (refl, refl) e) f

@@ -9,19 +9,19 @@ use Rattle.index_find.specs.declared.token.Kind.TheVariants as kind
 use Rattle.index_find.specs.Kinds.{kind_of}
 use Rattle.index_find.specs.declared.read.QueryFault.{QueryFault}
 use Rattle.index_find.specs.declared.read.QueryFault.TheVariants.{Memory, NotAQuery}
-use Rattle.index_find.specs.declared.taking.Pending.{Pending}
-use Rattle.index_find.specs.declared.taking.Pending.TheVariants as pending
+use Rattle.index_find.specs.declared.tokens.Pending.{Pending}
+use Rattle.index_find.specs.declared.tokens.Pending.TheVariants as pending
 
 -- what is pending, the last first, and the steps: before a term, or after one
 pub data State : Type 0 where
   Before : List Pending → List Step → State
-  Behind : List Pending → List Step → State
+  Past : List Pending → List Step → State
 
 -- a term has ended: it is negated as often as is pending, and joined to the terms before it
 abbrev pub ended : List Pending → List Step → State
 ended (pending.Not ∷ ps) ss = ended ps (ss ++ step.Not ∷ [])
-ended (pending.Both ∷ ps) ss = Behind ps (ss ++ step.Both ∷ [])
-ended ps ss = Behind ps ss
+ended (pending.Both ∷ ps) ss = Past ps (ss ++ step.Both ∷ [])
+ended ps ss = Past ps ss
 
 -- a part has ended: it is joined to the parts before it
 abbrev pub pending_joined : List Pending → List Pending
@@ -43,16 +43,16 @@ before_term kind.Not t ps ss = Some (Before (pending.Not ∷ ps) ss)
 before_term kind.Open t ps ss = Some (Before (pending.Open ∷ ps) ss)
 before_term k t ps ss = None
 
-abbrev pub behind_term : Kind → List Pending → List Step → Option State
-behind_term kind.Both ps ss = Some (Before (pending.Both ∷ ps) ss)
-behind_term kind.Either ps ss = Some (Before (pending.Either ∷ pending_joined ps) (steps_joined ps ss))
-behind_term kind.Close ps ss = closed (pending_joined ps) (steps_joined ps ss)
-behind_term k ps ss = None
+abbrev pub after_term : Kind → List Pending → List Step → Option State
+after_term kind.Both ps ss = Some (Before (pending.Both ∷ ps) ss)
+after_term kind.Either ps ss = Some (Before (pending.Either ∷ pending_joined ps) (steps_joined ps ss))
+after_term kind.Close ps ss = closed (pending_joined ps) (steps_joined ps ss)
+after_term k ps ss = None
 
 -- one token more
 abbrev pub took : State → Token → Option State
 took (Before ps ss) t = before_term (kind_of t) t ps ss
-took (Behind ps ss) t = behind_term (kind_of t) ps ss
+took (Past ps ss) t = after_term (kind_of t) ps ss
 
 -- the tokens one by one
 abbrev pub ran : State → List Token → Option State
@@ -66,14 +66,14 @@ alone (p ∷ ps) ss = None
 -- the steps, where nothing is pending
 abbrev pub finished : State → Option (List Step)
 finished (Before ps ss) = None
-finished (Behind ps ss) = alone (pending_joined ps) (steps_joined ps ss)
+finished (Past ps ss) = alone (pending_joined ps) (steps_joined ps ss)
 
 abbrev pub state_of : Bool → List Pending → List Step → State
-state_of true ps ss = Behind ps ss
+state_of true ps ss = Past ps ss
 state_of false ps ss = Before ps ss
 
 -- one token more leads to this state, or to none where it is no query's
 abbrev pub Takes : Result Bool QueryFault → (Option State → Type 0) → List Pending → List Step → Type 0
-Takes (Ok behind) Is ps ss = Is (Some (state_of behind ps ss))
+Takes (Ok following) Is ps ss = Is (Some (state_of following ps ss))
 Takes (Err NotAQuery) Is ps ss = Is None
 Takes (Err Memory) Is ps ss = Unit {0}

@@ -14,8 +14,8 @@ mod marks;
 mod query;
 mod read;
 mod stack;
-mod taking;
 mod token;
+mod tokens;
 
 pub use answer::find;
 pub use index_table::Index;

@@ -6,11 +6,11 @@ use std::marker::Model;
 
 /// Whether each path is marked.
 #[derive(Drop)]
-pub struct Marks {
+pub struct Selected {
     marks: Vec<bool>,
 }
 
-impl Model for Marks {
+impl Model for Selected {
     ghost use Rattle.std.specs.Prelude.{List, Bool};
 
     ghost Value = { List Bool };
@@ -18,14 +18,14 @@ impl Model for Marks {
     ghost view = { λ m. m.marks.items };
 }
 
-impl Marks {
+impl Selected {
     ghost use Rattle.index_find.specs.Marks.{at};
 
     /// So many places without a mark.
-    pub fn none(alloc: Global, many: usize) -> Result<Marks, AllocError>
+    pub fn none(alloc: Global, many: usize) -> Result<Selected, AllocError>
         ensures { IfOk result (λ m. m ≡ replicate many false) }
     {
-        Ok(Marks {
+        Ok(Selected {
             marks: vec![in alloc; false; many]?,
         })
     }
@@ -64,7 +64,7 @@ impl Marks {
     }
 
     /// Keeps the marks at the places that the other marks too.
-    pub fn keep(&mut self, other: &Marks)
+    pub fn keep(&mut self, other: &Selected)
         requires { length other.now ≡ length self.old }
         ensures many { length self.new ≡ length self.old }
         ensures each { (k : ℕ) → k < length self.old → at self.new k ≡ (at self.old k && at other.now k) }
@@ -75,7 +75,7 @@ impl Marks {
     }
 
     /// Marks the places too that the other marks.
-    pub fn add(&mut self, other: &Marks)
+    pub fn add(&mut self, other: &Selected)
         requires { length other.now ≡ length self.old }
         ensures many { length self.new ≡ length self.old }
         ensures each { (k : ℕ) → k < length self.old → at self.new k ≡ (at self.old k || at other.now k) }

@@ -4,7 +4,7 @@ ghost use Rattle.std.specs.String.{string_bytes};
 ghost use Rattle.index_find.specs.Answers.{IsAnswer};
 
 use crate::query::{Query, Step};
-use crate::taking::{Pending, end_part, take};
+use crate::tokens::{Pending, end_part, take};
 use std::alloc::{AllocError, Global};
 use thiserror::Error;
 
@@ -45,11 +45,11 @@ pub fn read_query(alloc: Global, words: &[String]) -> Result<Query, QueryFault>
     }
     let mut pending: Vec<Pending> = Vec::new(alloc);
     let mut steps: Vec<Step> = Vec::new(alloc);
-    let mut behind = false;
+    let mut following = false;
     for word in words {
-        behind = take(alloc, behind, &mut pending, &mut steps, word.as_str())?;
+        following = take(alloc, following, &mut pending, &mut steps, word.as_str())?;
     }
-    if !behind {
+    if !following {
         return Err(QueryFault::NotAQuery);
     }
     end_part(&mut pending, &mut steps)?;

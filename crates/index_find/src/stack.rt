@@ -5,17 +5,17 @@ ghost use Rattle.index_find.specs.Tree.{Tree, Word};
 ghost use Rattle.index_find.specs.Postfix.{stepped, tree_of};
 ghost use Rattle.index_find.specs.Marks.{AreMarks, AreStacked, joined};
 
-use crate::marks::Marks;
+use crate::marks::Selected;
 use crate::query::{Query, Step};
 use index_table::Index;
 use std::alloc::{AllocError, Global};
 
 // Marks the files that have the word.
-fn marks_of(alloc: Global, index: &Index, many: usize, word: &[u8]) -> Result<Marks, AllocError>
+fn marks_of(alloc: Global, index: &Index, many: usize, word: &[u8]) -> Result<Selected, AllocError>
     requires { many ≡ length index.now.paths }
     ensures { IfOk result (λ m. AreMarks index.now (Word word.now) m) }
 {
-    let mut marks = Marks::none(alloc, many)?;
+    let mut marks = Selected::none(alloc, many)?;
     for place in index.files_with(word) {
         marks.mark(*place as usize);
     }
@@ -23,7 +23,7 @@ fn marks_of(alloc: Global, index: &Index, many: usize, word: &[u8]) -> Result<Ma
 }
 
 // Takes the last marks from the stack.
-fn take_last(stack: &mut Vec<Marks>) -> Marks
+fn take_last(stack: &mut Vec<Selected>) -> Selected
     requires { 0 < vec_len stack.old }
     ensures items { stack.old.items ≡ stack.new.items ++ result ∷ [] }
     ensures len { vec_len stack.new + 1 ≡ vec_len stack.old }
@@ -39,9 +39,9 @@ fn join(
     alloc: Global,
     index: &Index,
     many: usize,
-    stack: &mut Vec<Marks>,
+    stack: &mut Vec<Selected>,
     step: &Step,
-) -> Result<Marks, AllocError>
+) -> Result<Selected, AllocError>
     requires many { many ≡ length index.now.paths }
     requires paths { ArePathsOf index.now.rows index.now.paths }
     requires enough { joined step.now ≤ vec_len stack.old }
@@ -78,12 +78,12 @@ pub fn marks_of_query(
     index: &Index,
     many: usize,
     query: &Query,
-) -> Result<Marks, AllocError>
+) -> Result<Selected, AllocError>
     requires many { many ≡ length index.now.paths }
     requires paths { ArePathsOf index.now.rows index.now.paths }
     ensures { IfOk result (λ m. AreMarks index.now (tree_of query.now) m) }
 {
-    let mut stack: Vec<Marks> = Vec::new(alloc);
+    let mut stack: Vec<Selected> = Vec::new(alloc);
     for step in query.steps() {
         let marks = join(alloc, index, many, &mut stack, step)?;
         stack.push(marks)?;

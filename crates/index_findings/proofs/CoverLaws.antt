@@ -17,8 +17,8 @@ use Rattle.index_findings.specs.Pieces.{IsCovered}
 use Rattle.index_findings.proofs.PieceLaws.{covered_cases, covered_prefix, covered_last}
 
 -- where no tree tells, all were read so
-pub none_told : (files : List ReadFile) → AreRead None files
-none_told files = All-from (λ (r : ReadFile). IsRead None r.path r.file) files (λ r h. tt)
+pub none_reported : (files : List ReadFile) → AreRead None files
+none_reported files = All-from (λ (r : ReadFile). IsRead None r.path r.file) files (λ r h. tt)
 
 -- the piece of a batch covers the paths of the batch
 pub batch_covered : (b : Held) (piece : Index) (old new : List Index) (fs : List File) → HoldsFiles fs b → IsIndexOf fs piece → new ≡ old ++ piece ∷ [] → (path : Path) → IsCovered new path ↔ IsHeldAt old b path

@@ -1,4 +1,4 @@
-pub mod ToldLaws
+pub mod ReportedLaws
 pub mod PieceLaws
 pub mod ReadFileLaws
 pub mod CoverLaws

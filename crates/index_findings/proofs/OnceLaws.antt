@@ -31,7 +31,7 @@ once_none pieces b none = record {
   ahead = λ path h. absurd (let k = subst (λ (l : List Index). IsCovered l path) none h in Contains-nil k.piece k.among);
 }
 
--- the batch became a piece behind the others
+-- the batch became a piece after the others
 pub once_put : (b : Held) (piece : Index) (old new : List Index) (fs : List File) → HoldsFiles fs b → IsIndexOf fs piece → new ≡ old ++ piece ∷ [] → AreHeldOnce old b → AreApart new
 once_put b piece old new fs holds index is once = subst AreApart (sym is)
     (AllPairs-append Apart old (piece ∷ []) once.apart (AllPairs-cons Apart piece [] (All-nil (Apart piece)) (AllPairs-nil Apart))

@@ -2,7 +2,7 @@
 use Rattle.std.proofs.Common.{◌≡◌, ◌<◌, List, [], ◌∷◌, ◌++◌, Option, Contains, AllPairs, inl, inr, ◌⊎◌, ap, sym, subst, length, length-append, arith}
 use Rattle.std.specs.Prelude.{All}
 use Rattle.std.proofs.lemmas.List.Elements.{All-append, All-cons, All-nil, Contains-append_cases, Contains-append_left, Contains-append_right}
-use Rattle.firefly_outside.specs.Trees.{Path, Told}
+use Rattle.firefly_outside.specs.Trees.{Path, Contents}
 use Rattle.std.proofs.lemmas.List.Kept.{AllPairs-cons}
 use Rattle.walker.proofs.ListLemmas.{All-at, All-from, AllPairs-append, AllPairs-head, AllPairs-nil, AllPairs-tail, Contains-head, Contains-map, Contains-nil, Contains-cons_cases}
 use Rattle.walker.specs.Pile.{AreApart}
@@ -10,16 +10,16 @@ use Rattle.walker.specs.TreeIndex.{IsFileAt, IsPartOf}
 use Rattle.walker.specs.Walk.{Walk}
 use Rattle.word_index.specs.Index.{File, Index, IsIndexOf, IsUnion, Meet}
 use Rattle.index_findings.specs.Pieces.{IsFilesPiece, IsCovered, AreMergedFrom}
-use Rattle.index_findings.proofs.ToldLaws.{told_all, told_both}
+use Rattle.index_findings.proofs.ReportedLaws.{reported_all, reported_both}
 
 -- the index of the files of both
-joins_files : (a b c : Index) → ((fs gs : List File) → IsIndexOf fs a → IsIndexOf gs b → IsIndexOf (fs ++ gs) c) → (tree : Option Told) (root : Path) → IsFilesPiece tree root a → IsFilesPiece tree root b → IsFilesPiece tree root c
+joins_files : (a b c : Index) → ((fs gs : List File) → IsIndexOf fs a → IsIndexOf gs b → IsIndexOf (fs ++ gs) c) → (tree : Option Contents) (root : Path) → IsFilesPiece tree root a → IsFilesPiece tree root b → IsFilesPiece tree root c
 joins_files a b c both tree root x y = record {
   files = x.files ++ y.files;
   index = both x.files y.files x.index y.index;
-  told = told_both tree (λ t. (f : File) → Contains x.files f → IsFileAt t root f) (λ t. (f : File) → Contains y.files f → IsFileAt t root f)
+  reported = reported_both tree (λ t. (f : File) → Contains x.files f → IsFileAt t root f) (λ t. (f : File) → Contains y.files f → IsFileAt t root f)
       (λ t. (f : File) → Contains (x.files ++ y.files) f → IsFileAt t root f)
-      (λ t p q f h. elim (Contains-append_cases x.files y.files f h) [ inl m ↦ p f m | inr m ↦ q f m ]) x.told y.told;
+      (λ t p q f h. elim (Contains-append_cases x.files y.files f h) [ inl m ↦ p f m | inr m ↦ q f m ]) x.reported y.reported;
 }
 
 pub merged_same : (xs ys : List Index) → xs ≡ ys → AreMergedFrom xs ys
@@ -43,9 +43,9 @@ ahead : {X : Type 0} (R : X → X → Type 0) (xs ys : List X) → AllPairs R (x
 ahead R [] ys h = AllPairs-nil R
 ahead R (x ∷ xs) ys h = AllPairs-cons R x xs (All-from (R x) xs (λ y k. All-at (R x) (xs ++ ys) y (AllPairs-head R x (xs ++ ys) h) (Contains-append_left xs ys y k))) (ahead R xs ys (AllPairs-tail R x (xs ++ ys) h))
 
-behind : {X : Type 0} (R : X → X → Type 0) (xs ys : List X) → AllPairs R (xs ++ ys) → AllPairs R ys
-behind R [] ys h = h
-behind R (x ∷ xs) ys h = behind R xs ys (AllPairs-tail R x (xs ++ ys) h)
+following : {X : Type 0} (R : X → X → Type 0) (xs ys : List X) → AllPairs R (xs ++ ys) → AllPairs R ys
+following R [] ys h = h
+following R (x ∷ xs) ys h = following R xs ys (AllPairs-tail R x (xs ++ ys) h)
 
 across : {X : Type 0} (R : X → X → Type 0) (xs ys : List X) → AllPairs R (xs ++ ys) → (x y : X) → Contains xs x → Contains ys y → R x y
 across R [] ys h x y first second = absurd (Contains-nil x first)
@@ -86,7 +86,7 @@ merged_ahead xs ys zs merged = record {
     (λ h. elim (covered_append ys zs path h) [ inl first ↦ covered_left xs zs path ((merged.covers path).0 first) | inr last ↦ covered_right xs zs path last ]),
     (λ h. elim (covered_append xs zs path h) [ inl first ↦ covered_left ys zs path ((merged.covers path).1 first) | inr last ↦ covered_right ys zs path last ]),
   );
-  apart = λ h. AllPairs-append Apart ys zs (merged.apart (ahead Apart xs zs h)) (behind Apart xs zs h)
+  apart = λ h. AllPairs-append Apart ys zs (merged.apart (ahead Apart xs zs h)) (following Apart xs zs h)
       (λ y z first second meet.
       let was = (merged.covers meet.0).0 (record { piece = y; among = first; covers = meet.1 }) in
       across Apart xs zs h was.piece z was.among second (meet.0, was.covers, meet.2));
@@ -144,11 +144,11 @@ module _ (pieces : List Index) (a b c : Index) where
   }
 
 -- the index of no file
-pub of_none : (tree : Option Told) (root : Path) (piece : Index) → IsIndexOf [] piece → IsFilesPiece tree root piece
+pub of_none : (tree : Option Contents) (root : Path) (piece : Index) → IsIndexOf [] piece → IsFilesPiece tree root piece
 of_none tree root piece index = record {
   files = [];
   index = index;
-  told = told_all tree (λ t. (f : File) → Contains [] f → IsFileAt t root f) (λ t f h. absurd (Contains-nil f h));
+  reported = reported_all tree (λ t. (f : File) → Contains [] f → IsFileAt t root f) (λ t f h. absurd (Contains-nil f h));
 }
 
 -- the index of no file, for no pieces
@@ -186,12 +186,12 @@ covered_cases xs x path h = elim (Contains-append_cases xs (x ∷ []) h.piece h.
 ]
 
 -- files whose paths the walk has found, by a piece that is their index
-pub part_of_walk : (tree : Option Told) (w : Walk) (piece : Index) → IsFilesPiece tree w.root piece → ((path : Path) → Contains piece.paths path → Contains w.files path) → IsPartOf tree w piece
+pub part_of_walk : (tree : Option Contents) (w : Walk) (piece : Index) → IsFilesPiece tree w.root piece → ((path : Path) → Contains piece.paths path → Contains w.files path) → IsPartOf tree w piece
 part_of_walk tree w piece h found = record {
   files = h.files;
   index = h.index;
   found = λ f among. found f.path ((h.index.paths f.path).1 (Contains-map (λ (g : File). g.path) h.files f among));
-  told = h.told;
+  reported = h.reported;
 }
 
 -- with one in the place of the last two there is one less

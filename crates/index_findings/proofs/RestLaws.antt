@@ -1,7 +1,7 @@
 -- What the closing walk does beside the workers.
 use Rattle.std.proofs.Common.{◌≡◌, List, [], ◌∷◌, ◌++◌, append-nil, inl, inr, refl, sym, ap, subst, ◌∙◌, Contains}
 use Rattle.std.specs.Prelude.{◌↔◌}
-use Rattle.firefly_outside.specs.Trees.{Path, Told, Calls, child}
+use Rattle.firefly_outside.specs.Trees.{Path, Contents, Calls, child}
 use Rattle.firefly_outside.specs.Under.{IsUnder}
 use Rattle.firefly_outside.specs.declared.tree.Kind.TheVariants.{File, Dir}
 use Rattle.word_index.specs.Index.{Index}
@@ -16,7 +16,7 @@ use Rattle.walker.proofs.Reached.{dir_reached, file_reached}
 use Rattle.walker.proofs.WalkLemmas.{found_listed}
 use Rattle.index_findings.specs.declared.findings.Fault.{Fault}
 use Rattle.index_findings.specs.declared.findings.Visit.{Visit}
-use Rattle.index_findings.specs.Faults.{TellsFault}
+use Rattle.index_findings.specs.Faults.{ReportsFault}
 use Rattle.index_findings.specs.Pieces.{AreMergedFrom, IsCovered}
 use Rattle.index_findings.specs.Rest.{CallsRest, WalksRest}
 use Rattle.index_findings.specs.Visits.{AreFound, IsFoundFile, dirs_listed}
@@ -37,7 +37,7 @@ pub found_in_walk : (w : Walk) (root : Path) (visits : List Visit) (pieces : Lis
 found_in_walk w root visits pieces same files found p h = of_name w root (child root p) p (sym same) refl (files (child root p) (found p h))
 
 -- one piece covers what those covered that became it
-pub walks_on : (t : Told) (w : Walk) (pieces : List Index) (piece : Index) (before now : Calls) (answer : WalkAnswer) → AreMergedFrom pieces (piece ∷ []) → CallsOnce t w piece.paths before now answer → WalksRest t w pieces before now answer
+pub walks_on : (t : Contents) (w : Walk) (pieces : List Index) (piece : Index) (before now : Calls) (answer : WalkAnswer) → AreMergedFrom pieces (piece ∷ []) → CallsOnce t w piece.paths before now answer → WalksRest t w pieces before now answer
 walks_on t w pieces piece before now answer merged once = record {
   covered = piece.paths;
   covers = λ p. (
@@ -69,7 +69,7 @@ none_added : (ps : List Path) → ps ≡ ps ++ []
 none_added ps = sym (append-nil ps)
 
 -- nothing was called and no index is answered
-pub rest_none : (t : Told) (root : Path) (visits : List Visit) (pieces : List Index) (calls : Calls) (answer : WalkAnswer) → ¬ IsDone answer → CallsRest t root visits pieces calls calls answer
+pub rest_none : (t : Contents) (root : Path) (visits : List Visit) (pieces : List Index) (calls : Calls) (answer : WalkAnswer) → ¬ IsDone answer → CallsRest t root visits pieces calls calls answer
 rest_none t root visits pieces calls answer undone = record {
   dirs = [];
   listed = none_added calls.listed;
@@ -84,14 +84,14 @@ rest_none t root visits pieces calls answer undone = record {
 }
 
 -- a fault that is answered is no index
-pub fault_undone : (w : Walk) (fault : Fault) (answer : WalkAnswer) → TellsFault w fault answer → ¬ IsDone answer
+pub fault_undone : (w : Walk) (fault : Fault) (answer : WalkAnswer) → ReportsFault w fault answer → ¬ IsDone answer
 fault_undone w fault answer tells done = elim tells [
   | inl lost ↦ subst IsDone lost.0 done
   | inr shown ↦ subst IsDone shown.0 done
 ]
 
 -- the same beside a walk
-pub walks_none : (t : Told) (w : Walk) (pieces : List Index) (calls : Calls) → WalksRest t w pieces calls calls Memory
+pub walks_none : (t : Contents) (w : Walk) (pieces : List Index) (calls : Calls) → WalksRest t w pieces calls calls Memory
 walks_none t w pieces calls = record {
   covered = covered_by pieces;
   covers = covered_in pieces;
@@ -113,7 +113,7 @@ walks_none t w pieces calls = record {
 }
 
 -- beside a walk whose listings and files are these
-pub rest_of_walk : (t : Told) (w : Walk) (root : Path) (visits : List Visit) (pieces : List Index) (before now : Calls) (answer : WalkAnswer) → w.root ≡ root → IsWalkOf w t
+pub rest_of_walk : (t : Contents) (w : Walk) (root : Path) (visits : List Visit) (pieces : List Index) (before now : Calls) (answer : WalkAnswer) → w.root ≡ root → IsWalkOf w t
     → ((p : Path) → IsListed w p ↔ Contains (dirs_listed visits) p) → ((p : Path) → IsCovered pieces p → Contains w.files p) → WalksRest t w pieces before now answer → CallsRest t root visits pieces before now answer
 rest_of_walk t w root visits pieces before now answer same walk listed found rest =
     let once = rest.once in

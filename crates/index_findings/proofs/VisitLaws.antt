@@ -45,9 +45,9 @@ pub sorted_by_dir : {F : Type 0} {g : Mut F (Bor Visit × (Bor Visit × Unit {0}
 sorted_by_dir {g = g} {f = f} visits up h = in_order visits (up before (ranks_by nat_list_cmp_total (λ (v : Visit). v.dir))
     (always_returns_same g (λ a r. is_lt r ≡ before a.0.now a.1.0.now) f (λ a r f' k. (ap is_lt (h a r f' k).0, (h a r f' k).1))))
 
-behind : {X : Type 0} (R : X → X → Type 0) (xs ys : List X) → AllPairs R (xs ++ ys) → AllPairs R ys
-behind R [] ys h = h
-behind R (x ∷ xs) ys h = behind R xs ys (AllPairs-tail R x (xs ++ ys) h)
+following : {X : Type 0} (R : X → X → Type 0) (xs ys : List X) → AllPairs R (xs ++ ys) → AllPairs R ys
+following R [] ys h = h
+following R (x ∷ xs) ys h = following R xs ys (AllPairs-tail R x (xs ++ ys) h)
 
 untrue : true ≡ false → ⊥
 untrue e = cc
@@ -59,7 +59,7 @@ found_ahead done rest x u name order among is = elim (Contains-append_cases done
   | inr later ↦ absurd (elim (Contains-cons_cases x rest u later) [
     | inl same ↦ omega (arith, ap length (is ∙ ap (λ (v : Visit). child v.dir name) (sym same)), length-append x.dir (slash ∷ name))
     | inr far ↦ untrue (sym (ap (λ d. is_lt (slice_cmp nat_cmp u.dir d)) is ∙ comes_before u.dir name slash)
-        ∙ All-at (λ v. before v x ≡ false) rest u (AllPairs-head (λ u v. before v u ≡ false) x rest (behind (λ u v. before v u ≡ false) done (x ∷ rest) order)) far)
+        ∙ All-at (λ v. before v x ≡ false) rest u (AllPairs-head (λ u v. before v u ≡ false) x rest (following (λ u v. before v u ≡ false) done (x ∷ rest) order)) far)
   ])
 ]
 

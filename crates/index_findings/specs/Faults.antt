@@ -24,5 +24,5 @@ IsFoundFault w (DirFault path) = IsUnlisted w path
 IsFoundFault w (FileFault path) = Contains (files_of w) path
 
 -- the path that failed is answered where it was found so, and else want of memory
-abbrev pub TellsFault : Walk → Fault → WalkAnswer → Type 0
-TellsFault w fault answer = ((answer ≡ Memory) × (¬ IsFoundFault w fault)) ⊎ ((answer ≡ ReadFault (path_of fault)) × IsFoundFault w fault)
+abbrev pub ReportsFault : Walk → Fault → WalkAnswer → Type 0
+ReportsFault w fault answer = ((answer ≡ Memory) × (¬ IsFoundFault w fault)) ⊎ ((answer ≡ ReadFault (path_of fault)) × IsFoundFault w fault)

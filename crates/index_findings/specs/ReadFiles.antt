@@ -1,6 +1,6 @@
 -- Files that were read, on the way to their pieces.
 use Rattle.std.specs.Prelude.{◌≡◌, ◌<◌, ◌≤◌, ◌⊎◌, Bool, List, Option, IfSome, IsTrue, Contains, All, vec_len}
-use Rattle.firefly_outside.specs.Trees.{Path, Told, IsFile, child}
+use Rattle.firefly_outside.specs.Trees.{Path, Contents, IsFile, child}
 use Rattle.firefly_outside.specs.declared.tree.FileBytes.{FileBytes}
 use Rattle.walker.specs.Pile.{AreApart}
 use Rattle.walker.specs.TreeIndex.{IsFileAt}
@@ -11,11 +11,11 @@ use Rattle.index_findings.specs.declared.read_files.ReadFile.{ReadFile}
 use Rattle.index_findings.specs.Pieces.{IsCovered}
 
 -- the file was read so, where the tree shows its contents
-abbrev pub IsRead : Option Told → Path → FileBytes → Type 0
+abbrev pub IsRead : Option Contents → Path → FileBytes → Type 0
 IsRead tree path file = IfSome tree (λ t. IsFile t path file)
 
 -- so was each of these
-abbrev pub AreRead : Option Told → List ReadFile → Type 0
+abbrev pub AreRead : Option Contents → List ReadFile → Type 0
 AreRead tree files = All (λ r. IsRead tree r.path r.file) files
 
 -- pieces are to be made of the read files: it has files, and enough of them or of their bytes, or no more are to come
@@ -38,7 +38,7 @@ pub record AreHeldOnce (pieces : List Index) (held : Held) : Type 0 where
   pub ahead : (path : Path) → IsCovered pieces path → ¬ Contains held.paths path
 
 -- the batch holds files that the tree has so below the root
-pub record HoldsRead (tree : Option Told) (root : Path) (held : Held) : Type 0 where
+pub record HoldsRead (tree : Option Contents) (root : Path) (held : Held) : Type 0 where
   pub files : List File
   pub holds : HoldsFiles files held
-  pub told : IfSome tree (λ t. (f : File) → Contains files f → IsFileAt t root f)
+  pub reported : IfSome tree (λ t. (f : File) → Contains files f → IsFileAt t root f)

@@ -1,6 +1,6 @@
 -- What the closing walk does beside the workers.
 use Rattle.std.specs.Prelude.{◌≡◌, ◌≢◌, ◌⊎◌, ◌↔◌, List, ◌++◌, Contains, AllPairs}
-use Rattle.firefly_outside.specs.Trees.{Path, Told, Calls, child}
+use Rattle.firefly_outside.specs.Trees.{Path, Contents, Calls, child}
 use Rattle.firefly_outside.specs.Under.{IsUnder}
 use Rattle.firefly_outside.specs.declared.tree.Kind.TheVariants.{File, Dir}
 use Rattle.word_index.specs.Index.{Index}
@@ -19,7 +19,7 @@ pub record IsCoveredFile (root : Path) (pieces : List Index) (path : Path) : Typ
 
 -- what no listing has listed was listed, and what no piece covers was read, each once; where the index is answered, these and those are all
 -- that lies under the root
-pub record CallsRest (t : Told) (root : Path) (visits : List Visit) (pieces : List Index) (before now : Calls) (answer : WalkAnswer) :
+pub record CallsRest (t : Contents) (root : Path) (visits : List Visit) (pieces : List Index) (before now : Calls) (answer : WalkAnswer) :
     Type 0 where
   pub dirs : List Path
   pub listed : now.listed ≡ before.listed ++ dirs
@@ -33,7 +33,7 @@ pub record CallsRest (t : Told) (root : Path) (visits : List Visit) (pieces : Li
   pub files_all : IsDone answer → (p : Path) → IsUnder t root File p ↔ (IsCoveredFile root pieces p ⊎ Contains files p)
 
 -- the same beside a walk
-pub record WalksRest (t : Told) (w : Walk) (pieces : List Index) (before now : Calls) (answer : WalkAnswer) : Type 0 where
+pub record WalksRest (t : Contents) (w : Walk) (pieces : List Index) (before now : Calls) (answer : WalkAnswer) : Type 0 where
   pub covered : List Path
   pub covers : (p : Path) → Contains covered p ↔ IsCovered pieces p
   pub once : CallsOnce t w covered before now answer

@@ -1,7 +1,7 @@
 //! The fault that a worker met, and whether it is shown.
 ghost use Rattle.std.specs.Prelude.{◌≡◌, ◌↔◌, IsTrue, Contains};
 ghost use Rattle.walker.specs.Walk.{files_of};
-ghost use Rattle.index_findings.specs.Faults.{IsFoundFault, TellsFault};
+ghost use Rattle.index_findings.specs.Faults.{IsFoundFault, ReportsFault};
 
 use crate::findings::Fault;
 use walker::{WalkAnswer, Walked, below};
@@ -31,7 +31,7 @@ fn finds_file(walked: &Walked, path: &str) -> bool
 /// The path that failed, where the walk has found it and doesn't show it as listed. Where it hasn't, the listing that names it was lost
 /// for want of memory.
 pub fn fault_answer(walked: &Walked, fault: Fault) -> WalkAnswer
-    ensures { TellsFault walked.now fault result }
+    ensures { ReportsFault walked.now fault result }
 {
     match fault {
         Fault::Dir(path) => {

@@ -8,19 +8,19 @@
 //! `firefly_outside`. It knows of no threads, and doesn't say which pieces are merged.
 #![tactic(auto)]
 
-mod collecting;
-mod deciding;
+mod all_findings;
+mod answer;
 mod faults;
 mod findings;
-mod gathering;
-mod joining;
-mod keeping;
-mod merging;
+mod kept_pieces;
+mod listings;
 mod read_files;
+mod visited;
+mod whole_piece;
 
-pub use deciding::decided;
+pub use all_findings::gather;
+pub use answer::decide;
 pub use findings::{Fault, Findings, Visit};
-pub use gathering::gathered;
-pub use keeping::keep_listing;
-pub use merging::{keep, merge_rest};
+pub use kept_pieces::{keep, merge_rest};
+pub use listings::keep_listing;
 pub use read_files::{ReadFile, ReadFiles, pieces_of};

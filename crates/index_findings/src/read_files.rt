@@ -1,6 +1,6 @@
 //! Files that were read, on the way to their pieces.
 ghost use Rattle.std.specs.Prelude.{◌≡◌, ◌+◌, ◌-◌, ◌^◌, ◌++◌, ◌∷◌, ◌↔◌, ◌⊎◌, [], List, min, map, ◌≢◌, AllPairs, vec_len, All, IfOk, OnOk, OnErr, IsTrue, Option};
-ghost use Rattle.firefly_outside.specs.Trees.{Path, Told, child};
+ghost use Rattle.firefly_outside.specs.Trees.{Path, Contents, child};
 ghost use Rattle.word_index.specs.Batch.{HoldsFiles};
 ghost use Rattle.word_index.specs.Index.{File};
 ghost use Rattle.index_findings.specs.Pieces.{IsCovered, IsFilesPiece};
@@ -78,7 +78,7 @@ impl ReadFiles {
 
 // Appends the piece of a batch.
 fn put_batch(pieces: &mut Vec<Piece>, batch: Batch) -> Result<(), AllocError>
-    ensures pieces { OnOk result ((o : Option Told) (root : Path) → HoldsRead o root batch → All (IsFilesPiece o root) pieces.old.items
+    ensures pieces { OnOk result ((o : Option Contents) (root : Path) → HoldsRead o root batch → All (IsFilesPiece o root) pieces.old.items
         → All (IsFilesPiece o root) pieces.new.items) }
     ensures covers { OnOk result ((files : List File) → HoldsFiles files batch → (path : Path)
         → IsCovered pieces.new.items path ↔ IsHeldAt pieces.old.items batch path) }
@@ -99,9 +99,9 @@ fn add_file(
     batch: Batch,
     read: &ReadFile,
 ) -> Result<Batch, AllocError>
-    ensures pieces { OnOk result ((o : Option Told) → HoldsRead o root.now batch → All (IsFilesPiece o root.now) pieces.old.items
+    ensures pieces { OnOk result ((o : Option Contents) → HoldsRead o root.now batch → All (IsFilesPiece o root.now) pieces.old.items
         → All (IsFilesPiece o root.now) pieces.new.items) }
-    ensures batch { IfOk result (λ b. (o : Option Told) → HoldsRead o root.now batch → IsRead o read.now.path read.now.file
+    ensures batch { IfOk result (λ b. (o : Option Contents) → HoldsRead o root.now batch → IsRead o read.now.path read.now.file
         → HoldsRead o root.now b) }
     ensures covers { IfOk result (λ b. (files : List File) → HoldsFiles files batch → (path : Path)
         → IsHeldAt pieces.new.items b path ↔ (IsHeldAt pieces.old.items batch path ⊎ (read.now.path ≡ child root.now path))) }
@@ -125,7 +125,7 @@ pub fn pieces_of(
     root: &str,
     mut loaded: Vec<ReadFile>,
 ) -> Result<Vec<Piece>, AllocError>
-    ensures files { IfOk result (λ ps. (o : Option Told) → AreRead o loaded.items → All (IsFilesPiece o root.now) ps.items) }
+    ensures files { IfOk result (λ ps. (o : Option Contents) → AreRead o loaded.items → All (IsFilesPiece o root.now) ps.items) }
     ensures covers { IfOk result (λ ps. (path : Path) → IsCovered ps.items path ↔ IsReadAt root.now loaded.items path) }
     ensures apart { AllPairs (λ p q. p ≢ q) (map (λ r. r.path) loaded.items) → IfOk result (λ ps. AreApart ps.items) }
 {

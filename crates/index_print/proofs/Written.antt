@@ -20,7 +20,7 @@ prefix_written count line a b c d e f g none last second mid first space spaces 
     let counts = first ∙ ap (λ l. decimal count ++ l) (mid ∙ ap (λ l. 32 ∷ l) lines) in
     spaces ∙ ap (λ l. 32 ∷ l) (space ∙ ap (λ l. 32 ∷ l) counts) ∙ parts count line
 
--- what is behind the start is all of it
+-- what is after the start is all of it
 pub all_of : (text : List ℕ) (start : ℕ) → start + length text ≡ 64 → take (64 - start) text ≡ text
 all_of text start e = let n : 64 - start ≡ length text = omega (arith, e) in ap (λ k. take k text) n ∙ take-length text
 

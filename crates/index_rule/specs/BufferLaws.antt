@@ -16,7 +16,7 @@ use Rattle.index_rule.specs.Counting.{times-append, distinct_times, times_distin
 use Rattle.index_rule.specs.Distinct.{AreDistinct}
 use Rattle.index_rule.specs.Notes.{may_alike, fits_alike, alike_back}
 use Rattle.index_rule.specs.Shares.{Share, AreAlike, IsItemAt, MayPut, noted, paths_of, paths_taken}
-use Rattle.index_rule.specs.Work.{FitsWork, ItemFits, IsBehind, IsBuffer, IsNewTo, MayChange, MayDo, ring_in, ring_of, files_at, pieces_at}
+use Rattle.index_rule.specs.Work.{FitsWork, ItemFits, IsAfter, IsBuffer, IsNewTo, MayChange, MayDo, ring_in, ring_of, files_at, pieces_at}
 use Rattle.index_rule.specs.WorkLaws.{allowed}
 use Rattle.index_rule.specs.declared.value.IndexItem.{IndexItem}
 use Rattle.index_rule.specs.declared.value.IndexValue.{IndexValue}
@@ -52,9 +52,9 @@ same_ring (Dirs d) q e = absurd (no_ring q e)
 same_ring (Ring r) q e = cc
 
 -- a value that is a ring may be under the mutex of a buffer
-ring_behind : (m : ℕ) (x : IndexValue) (q : Held IndexItem) → m ≢ 0 → ring_in x ≡ Some q → IsBehind m x
-ring_behind m (Dirs d) q n e = absurd (no_ring q e)
-ring_behind m (Ring r) q n e = n
+ring_after : (m : ℕ) (x : IndexValue) (q : Held IndexItem) → m ≢ 0 → ring_in x ≡ Some q → IsAfter m x
+ring_after m (Dirs d) q n e = absurd (no_ring q e)
+ring_after m (Ring r) q n e = n
 
 pub work_ring : (root : Path) (at : BufferAt) → IsBuffer at → (t : ℕ) (x : IndexValue) (s : Share) → FitsWork root at.mutex.0 x s
     → (q : Held IndexItem) × (ring_in x ≡ Some q) × IsWithin (part_of s.notes at.mutex.0) q
@@ -95,8 +95,8 @@ work_first root at is t x s fits q e i rest first =
 is_put : (P : IndexItem → Type 0) (d : Did IndexItem) (x y : Held IndexItem) → Does d x y → IsOfPut P d → put_did x y ≡ d
 is_put P (Put n i) x y does of =
     let last : y.items ≡ x.items ++ i ∷ [] = ap (λ (v : Held IndexItem). v.items) does.3 in
-    let behind : drop (length x.items) y.items ≡ i ∷ [] = ap (drop (length x.items)) last ∙ drop-append_seam x.items (i ∷ []) in
-    ap (put_by x) behind ∙ ap (λ k. Put k i) (sym does.2)
+    let following : drop (length x.items) y.items ≡ i ∷ [] = ap (drop (length x.items)) last ∙ drop-append_seam x.items (i ∷ []) in
+    ap (put_by x) following ∙ ap (λ k. Put k i) (sym does.2)
 is_put P (Took n i) x y does of = absurd of
 is_put P Shut x y does of = absurd of
 is_put P SawShut x y does of = ap (put_by x) (ap (λ (v : Held IndexItem). drop (length x.items) v.items) does.1 ∙ drop-length x.items)

@@ -16,7 +16,7 @@ use Rattle.firefly_outside.specs.Trees.{Path}
 use Rattle.index_rule.specs.Counting.{distinct_nil, distinct_cons, contains_nil}
 use Rattle.index_rule.specs.Distinct.{AreDistinct}
 use Rattle.index_rule.specs.Shares.{Share, KeepsOwn, IsChildOfTook, IsItemAt, blank, paths_taken}
-use Rattle.index_rule.specs.Work.{IsBehind, KeepsWork, ring_of, notes_of, all_took, all_put, all_files}
+use Rattle.index_rule.specs.Work.{IsAfter, KeepsWork, ring_of, notes_of, all_took, all_put, all_files}
 use Rattle.index_rule.specs.declared.value.IndexItem.{IndexItem}
 use Rattle.index_rule.specs.declared.value.IndexValue.{IndexValue}
 use Rattle.index_rule.specs.declared.value.IndexValue.TheVariants.{Dirs, Ring}
@@ -110,10 +110,10 @@ opens root values ns is = subst (λ vs. KeepsWork root vs (blanks ns)) (sym is.i
     waits : is.dirs.list.waiting.items ++ all_took (blanks ns) ≡ root ∷ []
     waits = ap (λ l. is.dirs.list.waiting.items ++ l) (none_of (λ s. s.took) ns refl) ∙ ap (λ l. l ++ []) is.first.waits
 
-    kinds : (m : ℕ) (v : IndexValue) → get_elem? list m ≡ some v → IsBehind m v
-    kinds zero v e = subst (λ (u : IndexValue). IsBehind 0 u) (some-injective (Dirs is.dirs) v e) refl
-    kinds (suc zero) v e = subst (λ (u : IndexValue). IsBehind 1 u) (some-injective (Ring (fresh 256)) v e) (λ z. omega arith)
-    kinds (suc (suc zero)) v e = subst (λ (u : IndexValue). IsBehind 2 u) (some-injective (Ring (fresh 8)) v e) (λ z. omega arith)
+    kinds : (m : ℕ) (v : IndexValue) → get_elem? list m ≡ some v → IsAfter m v
+    kinds zero v e = subst (λ (u : IndexValue). IsAfter 0 u) (some-injective (Dirs is.dirs) v e) refl
+    kinds (suc zero) v e = subst (λ (u : IndexValue). IsAfter 1 u) (some-injective (Ring (fresh 256)) v e) (λ z. omega arith)
+    kinds (suc (suc zero)) v e = subst (λ (u : IndexValue). IsAfter 2 u) (some-injective (Ring (fresh 8)) v e) (λ z. omega arith)
     kinds (suc (suc (suc m))) v e = absurd (some-ne-none v (sym e))
 
     rings : (m : ℕ) (q : Held IndexItem) → get_elem? (map ring_of list) m ≡ some q → BufferRule m q (notes_of (blanks ns))

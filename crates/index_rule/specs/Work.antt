@@ -50,9 +50,9 @@ waiting_in [] = []
 waiting_in (v ∷ values) = waiting_of v
 
 -- mutex 0 protects the directories in work, and each other mutex a ring
-abbrev pub IsBehind : ℕ → IndexValue → Type 0
-IsBehind m (Dirs d) = m ≡ 0
-IsBehind m (Ring q) = m ≢ 0
+abbrev pub IsAfter : ℕ → IndexValue → Type 0
+IsAfter m (Dirs d) = m ≡ 0
+IsAfter m (Ring q) = m ≢ 0
 
 -- a count in the value of the first mutex
 abbrev pub first_count : (IndexValue → ℕ) → List IndexValue → ℕ
@@ -75,7 +75,7 @@ notes_of shares = map (λ s. s.notes) shares
 -- that wait and those that were taken are the root and those that were put, each once; these are as
 -- many as were counted, and so are the files; and each thread put only what it may
 pub record KeepsWork (root : Path) (values : List IndexValue) (shares : List Share) : Type 0 where
-  pub kinds : (m : ℕ) (v : IndexValue) → get_elem? values m ≡ some v → IsBehind m v
+  pub kinds : (m : ℕ) (v : IndexValue) → get_elem? values m ≡ some v → IsAfter m v
   pub rings : Keeps (map ring_of values) (notes_of shares)
   pub dirs : IsPermutation (waiting_in values ++ all_took shares) (root ∷ all_put shares)
   pub once : AreDistinct (waiting_in values ++ all_took shares)
@@ -94,7 +94,7 @@ IsNewTo root m s (Ring q) = All (IsItemAt m) q.items
     × ((m ≡ 1) ⊎ (m ≡ 2) → AreDistinct (paths_at root q ++ paths_taken root m s) × All (IsBelow root) (paths_at root q))
 
 pub record FitsWork (root : Path) (m : ℕ) (v : IndexValue) (s : Share) : Type 0 where
-  pub kind : IsBehind m v
+  pub kind : IsAfter m v
   pub within : IsWithin (part_of s.notes m) (ring_of v)
   pub new : IsNewTo root m s v
 
@@ -133,7 +133,7 @@ Moves root m (Ring q) (Ring p) s r = MovesItems root m q p s r
 Moves root m x y s r = ⊥
 
 pub record MayChange (root : Path) (m : ℕ) (x y : IndexValue) (s r : Share) : Type 0 where
-  pub kind : IsBehind m y
+  pub kind : IsAfter m y
   pub moves : Moves root m x y s r
 
 -- the share after the list went from xs to ys, by what left its end or was put there, and this many

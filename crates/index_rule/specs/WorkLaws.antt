@@ -25,7 +25,7 @@ use Rattle.index_rule.specs.Notes.{own_more}
 use Rattle.index_rule.specs.Once.{own_of, rule_at, took_once, took_or_root, child_within, files_put_once, taken_once, was_put, file_within, pieces_put_once, piece_within, some_before}
 use Rattle.index_rule.specs.Shares.{Share, paths_of, paths_in, paths_put, paths_taken, KeepsOwn, IsChildOfTook, IsItemAt, MayPut, noted}
 use Rattle.index_rule.specs.Sharing.{all_set, at_map, at_unmap, items_fit, map_set, at_one, set_same, set_more, distinct_part, one_place}
-use Rattle.index_rule.specs.Work.{KeepsWork, FitsWork, MayChange, Moves, MovesCounts, MovesDirs, MovesItems, MayDo, IsNewTo, IsBehind, ring_of, waiting_of, waiting_in, dirs_of, files_of, first_count, all_took, all_put, all_files, notes_of, paths_at}
+use Rattle.index_rule.specs.Work.{KeepsWork, FitsWork, MayChange, Moves, MovesCounts, MovesDirs, MovesItems, MayDo, IsNewTo, IsAfter, ring_of, waiting_of, waiting_in, dirs_of, files_of, first_count, all_took, all_put, all_files, notes_of, paths_at}
 use Rattle.index_rule.specs.declared.value.IndexItem.{IndexItem}
 use Rattle.index_rule.specs.declared.value.IndexItem.TheVariants.{File, Piece}
 use Rattle.index_rule.specs.declared.value.IndexValue.{IndexValue}
@@ -131,7 +131,7 @@ items_belong root values shares h m x at = items_fit (IsItemAt m) m (ring_of x) 
     subst (λ l. All (λ p. IsItemAt m p.1) (part_of l m).puts) s.2 ((own_of root values shares h t s.0 s.1).kinds m))
 
 new_there : (root : Path) (values : List IndexValue) (shares : List Share) → KeepsWork root values shares → (m : ℕ) (x : IndexValue)
-    → get_elem? values m ≡ some x → IsBehind m x → (t : ℕ) (s : Share)
+    → get_elem? values m ≡ some x → IsAfter m x → (t : ℕ) (s : Share)
     → get_elem? shares t ≡ some s → IsNewTo root m s x
 new_there root values shares h m (Dirs d) at kind t s there =
     new_dirs root values shares h (Dirs d) (subst (λ k. get_elem? values k ≡ some (Dirs d)) kind at) t s there
@@ -345,11 +345,11 @@ module _ (root : Path) (values : List IndexValue) (shares : List Share) (h : Kee
       omega arith)
 
 -- the rest of the rule after a step
-kinds_set : (values : List IndexValue) (m : ℕ) (y : IndexValue) → ((k : ℕ) (v : IndexValue) → get_elem? values k ≡ some v → IsBehind k v)
-    → IsBehind m y
-    → (k : ℕ) (z : IndexValue) → get_elem? (slice_set values m y) k ≡ some z → IsBehind k z
+kinds_set : (values : List IndexValue) (m : ℕ) (y : IndexValue) → ((k : ℕ) (v : IndexValue) → get_elem? values k ≡ some v → IsAfter k v)
+    → IsAfter m y
+    → (k : ℕ) (z : IndexValue) → get_elem? (slice_set values m y) k ≡ some z → IsAfter k z
 kinds_set values m y kinds kind k z e = ⊎_elim
-    (λ (p : (k ≡ m) × (y ≡ z)). subst (λ v. IsBehind k v) p.1 (subst (λ j. IsBehind j y) (sym p.0) kind))
+    (λ (p : (k ≡ m) × (y ≡ z)). subst (λ v. IsAfter k v) p.1 (subst (λ j. IsAfter j y) (sym p.0) kind))
     (λ (p : (k ≢ m) × (get_elem? values k ≡ some z)). kinds k z p.1)
     (at_set values m k y z e)
 
@@ -382,7 +382,7 @@ same_dirs root values shares h m y n t s r there took put =
 
 keeps_ring : (root : Path) (values : List IndexValue) (shares : List Share) → KeepsWork root values shares → (m : ℕ) (q p : Held IndexItem)
     → get_elem? values m ≡ some (Ring q)
-    → (t : ℕ) (s r : Share) → get_elem? shares t ≡ some s → IsBehind m (Ring p) → MovesItems root m q p s r
+    → (t : ℕ) (s r : Share) → get_elem? shares t ≡ some s → IsAfter m (Ring p) → MovesItems root m q p s r
     → KeepsWork root (slice_set values m (Ring p)) (slice_set shares t r)
 keeps_ring root values shares h m q p at t s r there kind ok =
     let own = own_of root values shares h t s there in
@@ -415,7 +415,7 @@ keeps_ring root values shares h m q p at t s r there kind ok =
 
 keeps_dirs : (root : Path) (values : List IndexValue) (shares : List Share) → KeepsWork root values shares → (x y : IndexValue)
     → get_elem? values 0 ≡ some x
-    → (t : ℕ) (s r : Share) → get_elem? shares t ≡ some s → IsBehind 0 y → Moves root 0 x y s r
+    → (t : ℕ) (s r : Share) → get_elem? shares t ≡ some s → IsAfter 0 y → Moves root 0 x y s r
     → MovesDirs (waiting_of x) (waiting_of y) s r → MovesCounts x y s r → KeepsWork root (slice_set values 0 y) (slice_set shares t r)
 keeps_dirs root values shares h x y at t s r there kind ok go counts =
     let first = first_waits values x at in
@@ -437,7 +437,7 @@ keeps_dirs root values shares h x y at t s r there kind ok go counts =
 
 keeps_moved : (root : Path) (values : List IndexValue) (shares : List Share) → KeepsWork root values shares → (m : ℕ) (x y : IndexValue)
     → get_elem? values m ≡ some x
-    → (t : ℕ) (s r : Share) → get_elem? shares t ≡ some s → IsBehind m x → IsBehind m y → Moves root m x y s r
+    → (t : ℕ) (s r : Share) → get_elem? shares t ≡ some s → IsAfter m x → IsAfter m y → Moves root m x y s r
     → KeepsWork root (slice_set values m y) (slice_set shares t r)
 keeps_moved root values shares h m (Dirs d) (Dirs e) at t s r there was kind ok =
     subst (λ k. KeepsWork root (slice_set values k (Dirs e)) (slice_set shares t r)) (sym kind)

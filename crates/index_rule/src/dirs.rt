@@ -1,7 +1,7 @@
 //! The list of directories: what walkers take from it, and what they put there.
 ghost use Rattle.std.specs.Prelude.{◌≡◌, ◌++◌, ◌+◌, ◌<◌, ◌⊎◌, ◌↔◌, length, IsTrue};
 ghost use Rattle.index_rule.specs.Lists.{got_in, IsPutSo, IsTakenSo};
-ghost use Rattle.index_rule.specs.Work.{IsBehind};
+ghost use Rattle.index_rule.specs.Work.{IsAfter};
 ghost use Rattle.index_rule.specs.declared.value.IndexValue.TheVariants.{Dirs};
 
 use crate::value::{DirsInWork, FoundCounts, IndexValue, WaitingDirs};
@@ -43,7 +43,7 @@ impl PutDirs {
 
 /// Returns the directories, which are the value of mutex 0.
 pub fn dirs_in(value: IndexValue) -> DirsInWork
-    requires { IsBehind 0 value }
+    requires { IsAfter 0 value }
     ensures { value ≡ Dirs result }
 {
     match value {

@@ -1,7 +1,7 @@
 -- A run over copies of the sample tree ends with an index, or for want of memory.
 use Rattle.std.proofs.Common.{◌≡◌, ◌≢◌, ◌∙◌, ℕ, ◌+◌, ◌/◌, ◌<◌, ◌≤◌, List, [], sym, ap, subst, refl, arith, ⊎_elim, Contains, length}
 use Rattle.std.specs.Prelude.{Option, Some, None, Result, Ok, Err, IfOk}
-use Rattle.firefly_outside.specs.Trees.{Path, Told}
+use Rattle.firefly_outside.specs.Trees.{Path, Contents}
 use Rattle.firefly_outside.specs.Samples.{sample_root, dir_count, IsSampleTree}
 use Rattle.firefly_outside.specs.Under.{IsThere, AreMany}
 use Rattle.firefly_outside.specs.declared.tree.Kind.TheVariants.{Dir}
@@ -27,13 +27,13 @@ pub no_stop : (n : ℕ) → None ≡ Some n → ⊥
 no_stop n e = cc
 
 -- no path of a sample tree can fail
-pub no_fault : (seed files : ℕ) (t : Told) → IsSampleTree seed files t → (path : Path) → IsFaultUnder t sample_root [] path → ⊥
+pub no_fault : (seed files : ℕ) (t : Contents) → IsSampleTree seed files t → (path : Path) → IsFaultUnder t sample_root [] path → ⊥
 no_fault seed files t is path fault = ⊎_elim
     (λ (among : Contains [] path). none_contained path among)
     (λ (missing : ¬ IsThere t fault.kind path). missing (sample_there seed (dir_count files) files t is fault.kind path fault.under))
     fault.may
 
-pub not_too_many : (seed files : ℕ) (t : Told) → files ≤ 20000 → IsSampleTree seed files t → (many : ℕ) → many ≡ most_dirs + 1 → AreMany t sample_root Dir many → ⊥
+pub not_too_many : (seed files : ℕ) (t : Contents) → files ≤ 20000 → IsSampleTree seed files t → (many : ℕ) → many ≡ most_dirs + 1 → AreMany t sample_root Dir many → ⊥
 not_too_many seed files t few is many enough are = few_dirs seed (dir_count files) files t is many (omega (arith, few, enough)) are
 
 -- the fault of one of the copies
@@ -41,7 +41,7 @@ fault_of : (seed files : ℕ) (trees new : List (Option SampleTree)) → (a : Ar
     → IsCausedAt (λ m. Some (tree_of m)) (λ _. []) faults_of calls_of sample_root trees new path → ⊥
 fault_of seed files trees new a path cause =
     let at = tree_at a.tree trees a.each cause.place cause.s cause.was in
-    no_fault seed files a.tree a.is_sample path (subst (λ (t : Told). IsFaultUnder t sample_root [] path) at cause.told.0)
+    no_fault seed files a.tree a.is_sample path (subst (λ (t : Contents). IsFaultUnder t sample_root [] path) at cause.reported.0)
 
 pub ends_so : (seed files : ℕ) (plan : Plan) (trees new : List (Option SampleTree)) → plan.stop_after ≡ None → files ≤ 20000 → (a : AreSamples seed files trees) → (answer : IndexAnswer)
     → IndexSays (Some a.tree) sample_root plan answer → HasCause (λ m. Some (tree_of m)) (λ _. []) faults_of calls_of sample_root trees new answer → IsDoneOrMemory answer

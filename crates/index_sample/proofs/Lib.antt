@@ -4,5 +4,5 @@ pub mod Ends
 pub mod LineLemmas
 pub mod PathNumbers
 pub mod EntryLemmas
-pub mod ToldLemmas
+pub mod ReportedLemmas
 pub mod Failing

@@ -1,4 +1,4 @@
--- The number behind the last letter of a path.
+-- The number after the last letter of a path.
 use Rattle.std.proofs.Common.{◌≡◌, ◌≢◌, ℕ, ◌+◌, ◌<◌, ◌≤◌, ◌^◌, ◌%◌, List, [], ◌∷◌, ◌++◌, length, get_or, sym, ◌∙◌, ap, subst, arith, ◌⊎◌, inl, inr, length-append, nat_eq}
 use Rattle.std.specs.Prelude.{MatchOption, Option, Some, None, take, drop, decimal}
 use Rattle.std.specs.Borrow.{Bor}
@@ -26,7 +26,7 @@ no_letter c n e m same plain =
     let shorter : length e < length n = omega (arith, ap length same, length-append e (c ∷ m)) in
     plain (length e) 0 shorter (ap (λ s. get_or s (length e) 0) same ∙ letter_at c e m)
 
--- two texts without the letter that stand behind it are the same
+-- two texts without the letter that stand after it are the same
 pub same_end : (c : ℕ) (d e n m : List ℕ) → d ++ c ∷ n ≡ e ++ c ∷ m → All (λ b. b ≢ c) n → All (λ b. b ≢ c) m → n ≡ m
 same_end c [] [] n m same first second = cc
 same_end c [] (y ∷ e) n m same first second = absurd (no_letter c n e m (cc) first)
@@ -49,7 +49,7 @@ split_parts c bs (Some x) low h = (
   letterless-chars c x.1.now low (subst (NoCharPasses (λ b. nat_eq b c)) (sym h.4) h.2.0),
 )
 
--- the digits behind the letter are those of the number that a path has there
+-- the digits after the letter are those of the number that a path has there
 pub digits_there : (c : ℕ) (bs prefix before digits : List ℕ) (n : ℕ) → 57 < c → n < 20000 → bs ≡ before ++ c ∷ digits → All (λ b. b ≢ c) digits → bs ≡ prefix ++ c ∷ decimal n → digits ≡ decimal n
 digits_there c bs prefix before digits n high small split plain is =
     same_end c before prefix digits (decimal n) (sym split ∙ is) plain (letterless c n high (omega (arith, small)))

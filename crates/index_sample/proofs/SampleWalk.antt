@@ -4,7 +4,7 @@ use Rattle.std.specs.Prelude.{Option, Some, None}
 use Rattle.std.specs.List.{range_with_len}
 use Rattle.std.proofs.lemmas.List.FromFn.{get_or-map-range_with_len, length-map-range_with_len}
 use Rattle.std.proofs.lemmas.Option.{same_Some}
-use Rattle.firefly_outside.specs.Trees.{Path, Node, Directory, Bytes, Told, child}
+use Rattle.firefly_outside.specs.Trees.{Path, Node, Directory, Bytes, Contents, child}
 use Rattle.firefly_outside.specs.Under.{IsUnder, at_root, by_entry, IsThere, AreMany}
 use Rattle.firefly_outside.specs.Samples.{sample_root, dir_entry, file_entry, dir_path, file_path, files_in, sample_bytes, HasSamples}
 use Rattle.firefly_outside.specs.declared.tree.Entry.{Entry}
@@ -52,7 +52,7 @@ in_its_dir files k i low high =
     let own : i / 100 ≡ k = omega (arith, low, many) in
     (few, own)
 
-module _ (seed dirs files : ℕ) (t : Told) (has : HasSamples seed dirs files t) where
+module _ (seed dirs files : ℕ) (t : Contents) (has : HasSamples seed dirs files t) where
   -- a child of the root or of a directory is a directory or a file of the tree
   child_of : (kind : Kind) (path dir : Path) (es : List Entry) (e : Entry) → IsSamplePath dirs files Dir dir → t dir ≡ Some (Directory es) → Contains es e → kind ≡ e.kind → path ≡ child dir e.name → IsSamplePath dirs files kind path
   child_of kind path dir es e (inl root) here among called is =

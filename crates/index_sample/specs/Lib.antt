@@ -4,5 +4,5 @@ pub mod Summary
 pub mod Text
 pub mod Lines
 pub mod Listings
-pub mod Told
+pub mod Reported
 pub mod Shown

@@ -1,14 +1,14 @@
 -- What a sample tree shows: the tree and the calls made.
 use Rattle.std.specs.Prelude.{◌≡◌, ℕ, ◌++◌, ◌∷◌, [], ◌≤◌}
 use Rattle.firefly_outside.specs.Causes.{Rose}
-use Rattle.firefly_outside.specs.Trees.{Path, Told, Calls}
+use Rattle.firefly_outside.specs.Trees.{Path, Contents, Calls}
 use Rattle.firefly_outside.specs.declared.tree.TreeError.{TreeError}
 use Rattle.firefly_outside.specs.declared.tree.TreeError.TheVariants.{Memory, Failed}
-use Rattle.index_sample.specs.Told.{sample_told}
+use Rattle.index_sample.specs.Reported.{sample_reported}
 use Rattle.index_sample.specs.declared.sample_tree.SampleTree.{SampleTree}
 
-abbrev pub tree_of : SampleTree → Told
-tree_of s = sample_told s.seed s.files
+abbrev pub tree_of : SampleTree → Contents
+tree_of s = sample_reported s.seed s.files
 
 abbrev pub calls_of : SampleTree → Calls
 calls_of s = record { listed = s.listed.items; files_read = s.files_read.items; failed = s.failed.items }

@@ -1,6 +1,6 @@
 -- The sums of the index of the sample tree.
 use Rattle.std.specs.Prelude.{ℕ}
-use Rattle.firefly_outside.specs.Trees.{Told}
+use Rattle.firefly_outside.specs.Trees.{Contents}
 use Rattle.firefly_outside.specs.Samples.{IsSampleTree, sample_root}
 use Rattle.word_index.specs.Index.{Index}
 use Rattle.walker.specs.TreeIndex.{IsTreeIndex}
@@ -9,7 +9,7 @@ use Rattle.index_sample.specs.declared.summary.SampleSums.{SampleSums}
 
 -- these are the sums of the index of the sample tree
 pub record IsSummary (seed files : ℕ) (sums : SampleSums) : Type 0 where
-  pub tree : Told
+  pub tree : Contents
   pub is_sample : IsSampleTree seed files tree
   pub index : Index
   pub is_index : IsTreeIndex tree sample_root index

@@ -14,9 +14,9 @@ mod paths;
 mod sample_tree;
 mod short_text;
 mod summary;
-mod summing;
+mod sums;
 mod trees;
 
 pub use sample_tree::SampleTree;
 pub use summary::{SampleSums, print_summary};
-pub use summing::index_summary;
+pub use sums::index_summary;

@@ -26,7 +26,7 @@ fn file_text(file: u32) -> ShortText
 }
 
 // The number after the last occurrence of this letter, if all that follows it is a number.
-fn number_behind(path: &str, letter: char) -> Option<u32>
+fn number_after(path: &str, letter: char) -> Option<u32>
     requires { (letter ≡ 100) ⊎ (letter ≡ 102) }
     ensures some { (prefix : List ℕ) (n : ℕ) → n < 20000 → path.now ≡ prefix ++ letter ∷ decimal n → result ≡ Some n }
     ensures few { IfSome result (λ n. n < 20000) }
@@ -47,7 +47,7 @@ pub fn dir_number(path: &str, files: u32) -> Option<u32>
     ensures some { IfSome result (λ k. (k < dir_count files) × (path.now ≡ dir_path k)) }
     ensures none { IfNone result ((k : ℕ) → k < dir_count files → path.now ≢ dir_path k) }
 {
-    let Some(dir) = number_behind(path, 'd') else {
+    let Some(dir) = number_after(path, 'd') else {
         return None;
     };
     if dir < (files + 99) / 100 && dir_text(dir).as_str() == path {
@@ -62,7 +62,7 @@ pub fn file_number(path: &str, files: u32) -> Option<u32>
     ensures some { IfSome result (λ i. (i < files) × (path.now ≡ file_path i)) }
     ensures none { IfNone result ((i : ℕ) → i < files → path.now ≢ file_path i) }
 {
-    let Some(file) = number_behind(path, 'f') else {
+    let Some(file) = number_after(path, 'f') else {
         return None;
     };
     if file < files && file_text(file).as_str() == path {

@@ -101,7 +101,7 @@ impl Tree for SampleTree {
         ensures tree_stays { Some (tree_of self.new) ≡ Some (tree_of self.old) }
         ensures count { Counts (faults_of self.old) (faults_of self.new) result }
         ensures lawful { IfOk result (λ v. AreEntries v.items) }
-        ensures told { Lists (λ v. v.items) [] dir.now (calls_of self.old) (calls_of self.new) result (tree_of self.old) }
+        ensures reported { Lists (λ v. v.items) [] dir.now (calls_of self.old) (calls_of self.new) result (tree_of self.old) }
     {
         let Ok(path) = Text::of(alloc, dir) else {
             return Err(TreeError::Memory);
@@ -122,7 +122,7 @@ impl Tree for SampleTree {
         ensures tree_stays { Some (tree_of self.new) ≡ Some (tree_of self.old) }
         ensures count { Counts (faults_of self.old) (faults_of self.new) result }
         ensures lawful { IfOk result IsWithin }
-        ensures told { Reads [] path.now (calls_of self.old) (calls_of self.new) result (tree_of self.old) }
+        ensures reported { Reads [] path.now (calls_of self.old) (calls_of self.new) result (tree_of self.old) }
     {
         let Ok(text) = Text::of(alloc, path) else {
             return Err(TreeError::Memory);

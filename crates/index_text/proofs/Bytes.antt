@@ -57,9 +57,9 @@ module _ (ok : ℕ → Bool) (good grow : List ℕ → Bool) (stop : ℕ) where
       let split : bytes ≡ take at bytes ++ c ∷ drop (at + 1) bytes = sym (take-append-drop at bytes) ∙ ap (λ l. take at bytes ++ l) (drop-cons bytes at 0 h ∙ ap (λ n. c ∷ drop n bytes) next) in
       ap (token_from ok good grow stop []) split ∙ token_over ok good grow stop [] (take at bytes) (c ∷ drop (at + 1) bytes) p ∙ rw ends refl
 
--- the bytes behind a place, as a slice gives them
-pub slice_behind : (bytes : List ℕ) (n : ℕ) → take (length bytes - n) (drop n bytes) ≡ drop n bytes
-slice_behind bytes n = take_all (length bytes - n) (drop n bytes) (omega (arith, length-drop n bytes))
+-- the bytes after a place, as a slice gives them
+pub slice_after : (bytes : List ℕ) (n : ℕ) → take (length bytes - n) (drop n bytes) ≡ drop n bytes
+slice_after bytes n = take_all (length bytes - n) (drop n bytes) (omega (arith, length-drop n bytes))
 
 abbrev Read : Type 0
 Read = Result (List ℕ × List ℕ) Stop

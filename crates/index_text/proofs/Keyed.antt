@@ -11,7 +11,7 @@ use Rattle.index_text.specs.declared.fault.Stop.TheVariants.{Memory, More, Dead}
 use Rattle.index_text.specs.Texts.{is_key_byte}
 use Rattle.index_text.specs.Lines.{key_at, is_good_word, may_be_word, path_at, path_of, prefix_of, is_path, is_path_prefix, is_no_newline}
 use Rattle.index_text.specs.Steps.{Gives}
-use Rattle.index_text.proofs.Bytes.{token_end, token_stop, slice_behind, path_end, path_good, path_bad}
+use Rattle.index_text.proofs.Bytes.{token_end, token_stop, slice_after, path_end, path_good, path_bad}
 
 abbrev Passed : (ℕ → Bool) → ℕ → List ℕ → Type 0
 Passed ok at bytes = AllByRecursion (λ b. ok b ≡ true) (take at bytes)
@@ -36,7 +36,7 @@ module _ (last : Option (List ℕ)) (bytes : List ℕ) (at : ℕ) where
 
     pub key_good : get_or bytes at 0 ≡ 32 → true ≡ is_good_word last (take at bytes) → key_at last bytes ≡ Ok (take at bytes, take (length bytes - (at + 1)) (drop (at + 1) bytes))
     key_good e good =
-        spaced e ∙ ap (λ b. cond b (Ok (take at bytes, drop (at + 1) bytes)) (Err stops.Dead)) (sym good) ∙ ap (λ t. Ok (take at bytes, t)) (sym (slice_behind bytes (at + 1)))
+        spaced e ∙ ap (λ b. cond b (Ok (take at bytes, drop (at + 1) bytes)) (Err stops.Dead)) (sym good) ∙ ap (λ t. Ok (take at bytes, t)) (sym (slice_after bytes (at + 1)))
 
     pub key_bad : get_or bytes at 0 ≡ 32 → false ≡ is_good_word last (take at bytes) → key_at last bytes ≡ Err stops.Dead
     key_bad e good = spaced e ∙ ap (λ b. cond b (Ok (take at bytes, drop (at + 1) bytes)) (Err stops.Dead)) (sym good)
@@ -49,7 +49,7 @@ module _ (last : Option (List ℕ)) (bytes : List ℕ) (at : ℕ) where
 
   module _ (h : at < length bytes) (p : Passed is_no_newline at bytes) (ten : get_or bytes at 0 ≡ 10) where
     pub path_read : (out : List ℕ) → path_of (take at bytes) ≡ Some out → true ≡ is_path last (Some out) → path_at last bytes ≡ Ok (out, take (length bytes - (at + 1)) (drop (at + 1) bytes))
-    path_read out is good = path_good last bytes out at h p ten is (sym good) ∙ ap (λ t. Ok (out, t)) (sym (slice_behind bytes (at + 1)))
+    path_read out is good = path_good last bytes out at h p ten is (sym good) ∙ ap (λ t. Ok (out, t)) (sym (slice_after bytes (at + 1)))
 
     pub path_refused : (out : List ℕ) → path_of (take at bytes) ≡ Some out → false ≡ is_path last (Some out) → path_at last bytes ≡ Err stops.Dead
     path_refused out is good = path_bad last bytes at h p ten (ap (is_path last) is ∙ sym good)

@@ -5,7 +5,7 @@ use Rattle.exact_text.specs.declared.stop.Stop.{Stop}
 use Rattle.exact_text.specs.Codes.{IsCode}
 use Rattle.exact_text.specs.Prefixes.{Begins, IsBrokenAt, IsCutShortAt}
 use Rattle.exact_text.specs.Unfolds.{Unfolds}
-use Rattle.exact_text.proofs.Grammar.{begins_behind, broken_behind, cut_short_behind}
+use Rattle.exact_text.proofs.Grammar.{begins_after, broken_after, cut_short_after}
 use Rattle.word_index.specs.Index.{Hit, Row}
 use Rattle.index_print.specs.Text.{hit_line, skipped_line}
 use Rattle.index_table.specs.Rows.{paths_of, words_of}
@@ -14,7 +14,7 @@ use Rattle.index_text.specs.Lines.{Heading, word, skipped}
 use Rattle.index_text.specs.Next.{IsLast, IsLastPath, IsNext, IsHeading, heading_text}
 use Rattle.index_text.specs.Steps.{IsRowsText, IsHitsText, IsSkippedText}
 use Rattle.index_text.proofs.LineCodes.{heading_code, hit_code, skipped_code}
-use Rattle.index_text.proofs.States.{Behind, rows_grammar, skipped_grammar, hits_grammar, rows_some, rows_back, skipped_some, skipped_back, broken_some, cut_some}
+use Rattle.index_text.proofs.States.{Following, rows_grammar, skipped_grammar, hits_grammar, rows_some, rows_back, skipped_some, skipped_back, broken_some, cut_some}
 
 -- what is broken or cut short in the rest is so in the whole, so many lines later
 pub record Reaches (T : List ℕ → Type 0) (bytes : List ℕ) (S : List ℕ → Type 0) (rest : List ℕ) (n : ℕ) : Type 0 where
@@ -39,9 +39,9 @@ reach_then {T} {S} {R} {a} {b} {c} {n} {m} l e p q = record {
 reach_line : {X : Type 0} {Text : List ℕ → Type 0} {lawful : X → Type 0} {text : X → List ℕ} {Next : X → List ℕ → Type 0} {read : List ℕ → Result (X × List ℕ) Stop} → Unfolds Text lawful text Next → IsCode lawful text read
     → (x : X) → lawful x → (rest : List ℕ) → Reaches Text (text x ++ rest) (Next x) rest 1
 reach_line grammar code x l rest = record {
-  broken = λ k b. broken_behind grammar code x l rest k b;
-  cut = λ k b. cut_short_behind grammar code x l rest k b;
-  prefix = λ b. begins_behind grammar code x l rest b;
+  broken = λ k b. broken_after grammar code x l rest k b;
+  cut = λ k b. cut_short_after grammar code x l rest k b;
+  prefix = λ b. begins_after grammar code x l rest b;
 }
 
 pub reach_some : {S T : List ℕ → Type 0} → ((bytes : List ℕ) → T bytes → (bytes ≡ []) ⊎ S bytes) → ((bytes : List ℕ) → S bytes → T bytes) → (bytes : List ℕ) → 0 < length bytes → Reaches T bytes S bytes 0
@@ -170,7 +170,7 @@ heading_long (word w n) rest = simp length-append (omega arith)
 heading_long (skipped p) rest = omega arith
 
 -- past one heading
-pub reach_heading : (last : Option (List ℕ)) → IsLast last → (x : Heading) → IsHeading last x → (rest : List ℕ) → Reaches (IsRowsText last) (heading_text x ++ rest) (Behind x) rest 1
+pub reach_heading : (last : Option (List ℕ)) → IsLast last → (x : Heading) → IsHeading last x → (rest : List ℕ) → Reaches (IsRowsText last) (heading_text x ++ rest) (Following x) rest 1
 reach_heading last ok x l rest =
     reach_then 1 (omega arith) (reach_some (rows_some last) (rows_back last) (heading_text x ++ rest) (heading_long x rest)) (reach_line (rows_grammar last) (heading_code last ok) x l rest)
 

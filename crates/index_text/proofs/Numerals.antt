@@ -10,7 +10,7 @@ use Rattle.exact_text.proofs.CodeLaws.{ok_injective}
 use Rattle.exact_text.specs.Codes.{IsCode}
 use Rattle.index_text.specs.Numerals.{digits_in, numeral, is_digit, is_leading, digits_from, leading_at, numeral_at}
 
--- one digit, or one more behind those of a tenth
+-- one digit, or one more after those of a tenth
 in_one : (turns n : ℕ) → n < 10 → digits_in (suc turns) n ≡ (48 + n) ∷ []
 unfolding digits_in
 in_one turns n small = let t : nat_lt n 10 ≡ true = grind (arith, nat_tests) in rw t refl

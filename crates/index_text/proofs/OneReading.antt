@@ -39,18 +39,18 @@ one_hits last ok (h ∷ hs) (g ∷ gs) many a b x y e =
     let rest = one_hits (Some h.path) a.0.path hs gs (omega (arith, many)) a.1 (subst (λ p. AreHits (Some p) gs) (sym path) b.1) x y first.1 in
     ((λ i. first.0 i ∷ rest.0 i), rest.1)
 
--- the text of a row and what follows, behind the line of its word
-abbrev behind_word : Row → List Row → List (List ℕ) → List ℕ
-behind_word r rs ps = flat_map hit_line r.hits ++ text_of rs ps
+-- the text of a row and what follows, after the line of its word
+abbrev past_word : Row → List Row → List (List ℕ) → List ℕ
+past_word r rs ps = flat_map hit_line r.hits ++ text_of rs ps
 
-split_word : (r : Row) (rs : List Row) (ps : List (List ℕ)) → text_of (r ∷ rs) ps ≡ heading_text (word r.word (length r.hits)) ++ behind_word r rs ps
+split_word : (r : Row) (rs : List Row) (ps : List (List ℕ)) → text_of (r ∷ rs) ps ≡ heading_text (word r.word (length r.hits)) ++ past_word r rs ps
 split_word r rs ps = append_assoc (row_text r) (flat_map row_text rs) (flat_map skipped_line ps) ∙ append_assoc (word_line r) (flat_map hit_line r.hits) (text_of rs ps)
 
 -- no row stands where skipped paths begin
 no_row : (last : Option (List ℕ)) → IsLast last → (r : Row) (rs : List Row) (ps ss : List (List ℕ)) → AreRows last (r ∷ rs) → ArePaths None ss → text_of (r ∷ rs) ps ≡ flat_map skipped_line ss → ⊥
 no_row last ok r rs ps [] a b e = omega (arith, a.0.word.some, simp length-append at (ap length e))
 no_row last ok r rs ps (s ∷ ss) a b e =
-    let first = read_same (heading_code last ok) (word r.word (length r.hits)) (skipped s) (behind_word r rs ps) (flat_map skipped_line ss) ((a.0.word, a.0.above), a.0.many) b.0 (sym (split_word r rs ps) ∙ e) in
+    let first = read_same (heading_code last ok) (word r.word (length r.hits)) (skipped s) (past_word r rs ps) (flat_map skipped_line ss) ((a.0.word, a.0.above), a.0.many) b.0 (sym (split_word r rs ps) ∙ e) in
     let bad = first.0 in
     cc
 
@@ -61,7 +61,7 @@ one_rows last ok (r ∷ rs) [] ps ss a b c d e = absurd (no_row last ok r rs ps 
 one_rows last ok (r ∷ rs) (q ∷ qs) ps ss a b c d e =
     let x = word r.word (length r.hits) in
     let y = word q.word (length q.hits) in
-    let first = read_same (heading_code last ok) x y (behind_word r rs ps) (behind_word q qs ss) ((a.0.word, a.0.above), a.0.many) ((b.0.word, b.0.above), b.0.many) (sym (split_word r rs ps) ∙ e ∙ split_word q qs ss) in
+    let first = read_same (heading_code last ok) x y (past_word r rs ps) (past_word q qs ss) ((a.0.word, a.0.above), a.0.many) ((b.0.word, b.0.above), b.0.many) (sym (split_word r rs ps) ∙ e ∙ split_word q qs ss) in
     let heading = first.0 in
     let words : r.word ≡ q.word = cc in
     let many : length r.hits ≡ length q.hits = cc in

@@ -14,7 +14,7 @@ use Rattle.exact_text.specs.Intake.{rest_of, room_of}
 use Rattle.exact_text.specs.Long.{IsLongFilled, IsLongAsked}
 use Rattle.exact_text.proofs.Grammar.{broken, cut_short, prefix}
 use Rattle.exact_text.proofs.LinesOf.{some_left, nothing_left}
-use Rattle.exact_text.proofs.Stuck.{take_behind, rose_since, kept_consumes, Keeps-refl, Keeps-after}
+use Rattle.exact_text.proofs.Stuck.{take_after, rose_since, kept_consumes, Keeps-refl, Keeps-after}
 use Rattle.index_text.specs.Next.{IsTaken}
 use Rattle.index_text.specs.Takes.{Lacks, IsAll}
 use Rattle.index_text.proofs.Loops.{Reaches, reach_here, reach_some}
@@ -70,8 +70,8 @@ taken_all {text} {n} {old} {mid} {left} {left1} t new left' before now a = recor
     whole (Some a) (Some b) c h = c ∙ ap (λ l. text ++ l) h ∙ append-nil text
 
 -- all that was left after one text
-pub all_behind : {a b : List ℕ} {n : ℕ} {old mid : Intake} {left left1 left' : Option (List ℕ)} → IsTaken a n old mid left left1 → IsAll b mid left1 left' → {text : List ℕ} → a ++ b ≡ text → IsAll text old left left'
-all_behind {a} {b} {n} {old} {mid} {left} {left1} {left'} t h {text} e = record {
+pub all_after : {a b : List ℕ} {n : ℕ} {old mid : Intake} {left left1 left' : Option (List ℕ)} → IsTaken a n old mid left left1 → IsAll b mid left1 left' → {text : List ℕ} → a ++ b ≡ text → IsAll text old left left'
+all_after {a} {b} {n} {old} {mid} {left} {left1} {left'} t h {text} e = record {
   all = whole (rest_of old left) (rest_of mid left1) t.consumed h.all;
   within = omega (arith, t.room, h.within, ap length e, length-append a b);
   end = h.end;
@@ -83,27 +83,27 @@ all_behind {a} {b} {n} {old} {mid} {left} {left1} {left'} t h {text} e = record 
     whole (Some xs) (Some ys) c k = c ∙ ap (λ l. a ++ l) k ∙ e
 
 -- what is shown after a text is shown of the whole
-shown_behind : {T S : List ℕ → Type 0} {n : ℕ} (text : List ℕ) → ((rest : List ℕ) → Reaches T (text ++ rest) S rest n) → (a b : List ℕ) (room room' j k : ℕ) → a ≡ text ++ b → room' + length text ≡ room → j + n ≡ k → IsShown S room' b j → IsShown T room a k
-shown_behind {T} {S} {n} text reach a b room room' j k c same e (inl q) =
-    inl (subst (λ l. IsBrokenAt T l k) (sym (take_behind text a b room room' c same)) (subst (IsBrokenAt T (text ++ take room' b)) e ((reach (take room' b)).broken j q)))
-shown_behind {T} {S} {n} text reach a b room room' j k c same e (inr q) =
+shown_after : {T S : List ℕ → Type 0} {n : ℕ} (text : List ℕ) → ((rest : List ℕ) → Reaches T (text ++ rest) S rest n) → (a b : List ℕ) (room room' j k : ℕ) → a ≡ text ++ b → room' + length text ≡ room → j + n ≡ k → IsShown S room' b j → IsShown T room a k
+shown_after {T} {S} {n} text reach a b room room' j k c same e (inl q) =
+    inl (subst (λ l. IsBrokenAt T l k) (sym (take_after text a b room room' c same)) (subst (IsBrokenAt T (text ++ take room' b)) e ((reach (take room' b)).broken j q)))
+shown_after {T} {S} {n} text reach a b room room' j k c same e (inr q) =
     inr (omega (arith, q.0, ap length c, length-append text b, same), subst (λ l. IsCutShortAt T l k) (sym c) (subst (IsCutShortAt T (text ++ b)) e ((reach b).cut j q.1)))
 
 -- a reason after a text is one of the whole
-pub lacks_behind : {T S : List ℕ → Type 0} {n : ℕ} {text : List ℕ} {old mid : Intake} {left left1 : Option (List ℕ)} → IsTaken text n old mid left left1 → ((rest : List ℕ) → Reaches T (text ++ rest) S rest n)
+pub lacks_after : {T S : List ℕ → Type 0} {n : ℕ} {text : List ℕ} {old mid : Intake} {left left1 : Option (List ℕ)} → IsTaken text n old mid left left1 → ((rest : List ℕ) → Reaches T (text ++ rest) S rest n)
     → (left' : Option (List ℕ)) (first before now : ℕ) (f : TextFault) → before ≡ first → Lacks S mid left1 left' before now f → Lacks T old left left' first now f
-lacks_behind {T} {S} {n} {text} {old} {mid} {left} {left1} t reach left' first before now f same h = by f (rest_of old left) (rest_of mid left1) t.consumed h
+lacks_after {T} {S} {n} {text} {old} {mid} {left} {left1} t reach left' first before now f same h = by f (rest_of old left) (rest_of mid left1) t.consumed h
   where
     by : (f : TextFault) (r r' : Option (List ℕ)) → Consumes r r' text → OrMemory (HasReason S (bytes_room (room_of mid)) mid.lines r' left' before now) f → OrMemory (HasReason T (bytes_room (room_of old)) old.lines r left' first now) f
     by Memory r r' c h = tt
     by (BadLine k) None r' c h = (omega (arith, h.0, t.lines), tt)
     by (BadLine k) (Some a) None c h = absurd c
     by (BadLine k) (Some a) (Some b) c h =
-        (omega (arith, h.0, t.lines), shown_behind text reach a b (room_of old) (room_of mid) (k - mid.lines) (k - old.lines) c t.room (omega (arith, h.0, t.lines)) h.1)
+        (omega (arith, h.0, t.lines), shown_after text reach a b (room_of old) (room_of mid) (k - mid.lines) (k - old.lines) c t.room (omega (arith, h.0, t.lines)) h.1)
     by TooLong None r' c h = tt
     by TooLong (Some a) None c h = absurd c
     by TooLong (Some a) (Some b) c h =
-        (omega (arith, h.0, ap length c, length-append text b, t.room), subst (Begins T) (sym (take_behind text a b (room_of old) (room_of mid) c t.room)) ((reach (take (room_of mid) b)).prefix h.1))
+        (omega (arith, h.0, ap length c, length-append text b, t.room), subst (Begins T) (sym (take_after text a b (room_of old) (room_of mid) c t.room)) ((reach (take (room_of mid) b)).prefix h.1))
     by Read r r' c h =
         let given = h.1.0 in
         (rose_since first before now (omega (arith, same)) h.0, (text ++ given, Consumes-trans r r' left' text given c h.1.1, (reach given).prefix h.1.2, omega (arith, h.1.3, length-append text given, t.room)))
@@ -151,7 +151,7 @@ module _ {S T : List ℕ → Type 0} (some : (bytes : List ℕ) → T bytes → 
   lacks_first grammar code old mid left left1 left' first before now f a same h =
       let more = some_left (rest_of mid left1) left1 mid.window (Keeps-refl (rest_of mid left1)) a.3 in
       let line = lacks_line grammar code (rest_of mid left1) left' mid.lines (room_of mid) before now f h in
-      lacks_behind (taken_asked old mid left left1 first before a) (reach_here T) left' first before now f same (lacks_some (rest_of mid left1) left' mid.lines (room_of mid) before now f more (omega (arith, a.3)) line)
+      lacks_after (taken_asked old mid left left1 first before a) (reach_here T) left' first before now f same (lacks_some (rest_of mid left1) left' mid.lines (room_of mid) before now f more (omega (arith, a.3)) line)
 
 -- a fault where nothing is held
 pub lacks_asked : {T : List ℕ → Type 0} → Begins T [] → (old new : Intake) (left left' : Option (List ℕ)) (before now : ℕ) (f : TextFault) → IsLongAsked old new left left' before now (Err f) → Lacks T old left left' before now f

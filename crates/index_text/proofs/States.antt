@@ -62,17 +62,17 @@ hit_is_line last h k =
     let e = IsFlat-append (codes "  " ++ decimal h.count ++ codes " " ++ decimal h.line) (codes " ") d flat_blank in
     (codes "  " ++ decimal h.count ++ codes " " ++ decimal h.line ++ codes " " ++ escaped h.path, IsFlat-append (codes "  " ++ decimal h.count ++ codes " " ++ decimal h.line ++ codes " ") (escaped h.path) e (flat_path h.path), refl)
 
--- behind a heading
-abbrev pub Behind : Heading → List ℕ → Type 0
-Behind (word w n) rest = IsHitsText w n None rest
-Behind (skipped p) rest = IsSkippedText (Some p) rest
+-- after a heading
+abbrev pub Following : Heading → List ℕ → Type 0
+Following (word w n) rest = IsHitsText w n None rest
+Following (skipped p) rest = IsSkippedText (Some p) rest
 
 -- texts that aren't empty
 pub record SomeRows (last : Option (List ℕ)) (bytes : List ℕ) : Type 0 where
   pub heading : Heading
   pub rest : List ℕ
   pub lawful : IsHeading last heading
-  pub next : Behind heading rest
+  pub next : Following heading rest
   pub is : bytes ≡ heading_text heading ++ rest
 
 pub record SomeSkipped (last : Option (List ℕ)) (bytes : List ℕ) : Type 0 where
@@ -96,15 +96,15 @@ some_hits w (suc n) last ok =
     let t = r.1 in
     (hit_line h.0 ++ r.0, (h.0 ∷ t.0, t.1, ap suc t.2, (h.1, t.3), t.4, ap (λ l. hit_line h.0 ++ l) t.5 ∙ sym (append_assoc (hit_line h.0) (flat_map hit_line t.0) t.1)))
 
-behind_some : (last : Option (List ℕ)) (x : Heading) → IsHeading last x → (rest : List ℕ) × Behind x rest
-behind_some last (word w n) h = some_hits w n None tt
-behind_some last (skipped p) h = ([], ([], tt, refl))
+after_some : (last : Option (List ℕ)) (x : Heading) → IsHeading last x → (rest : List ℕ) × Following x rest
+after_some last (word w n) h = some_hits w n None tt
+after_some last (skipped p) h = ([], ([], tt, refl))
 
-pub rows_grammar : (last : Option (List ℕ)) → Unfolds (SomeRows last) (IsHeading last) heading_text Behind
+pub rows_grammar : (last : Option (List ℕ)) → Unfolds (SomeRows last) (IsHeading last) heading_text Following
 rows_grammar last = record {
   opens = λ bytes t. (t.heading, t.rest, t.lawful, t.next, t.is);
   closes = λ x rest l n. record { heading = x; rest = rest; lawful = l; next = n; is = refl };
-  goes_on = behind_some last;
+  goes_on = after_some last;
   some = let p = some_next None tt in (skipped p.0, p.1);
   lines = heading_is_line last;
 }
@@ -150,7 +150,7 @@ rows_some last bytes (r ∷ rs, ps, rows, paths, is) =
 pub rows_back : (last : Option (List ℕ)) (bytes : List ℕ) → SomeRows last bytes → IsRowsText last bytes
 rows_back last bytes t = by t.heading t.lawful t.next t.is
   where
-    by : (x : Heading) → IsHeading last x → Behind x t.rest → bytes ≡ heading_text x ++ t.rest → IsRowsText last bytes
+    by : (x : Heading) → IsHeading last x → Following x t.rest → bytes ≡ heading_text x ++ t.rest → IsRowsText last bytes
     by (skipped p) l n is = ([], p ∷ n.0, tt, (l, n.1), is ∙ ap (λ x. skipped_line p ++ x) n.2)
     by (word w m) l n is =
         let hits = n.0 in

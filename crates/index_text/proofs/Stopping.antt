@@ -32,13 +32,13 @@ waits start left before = record { lines = refl; room = refl; rest = Keeps-refl 
 module _ {start now : Intake} {left left' : Option (List ℕ)} {before since : ℕ} (w : IsWaiting start now left left' before since) where
   -- more came
   pub waits_on : (mid new : Intake) (there : Option (List ℕ)) (later : ℕ) (stop : Stop) → mid ≡ now → GoesOn stop mid new left' there since later (Ok tt) → later ≡ since → IsWaiting start new left there before later
-  waits_on mid new there later stop same g told =
+  waits_on mid new there later stop same g reported =
       let f = subst (λ (m : Intake). IsFilled m new left' there since later (Ok true)) same g.1 in
       record {
         lines = f.0.1 ∙ w.lines;
         room = f.2 ∙ w.room;
         rest = Keeps-trans (rest_of start left) (rest_of now left') (rest_of new there) w.rest f.3;
-        unfailed = told ∙ w.unfailed;
+        unfailed = reported ∙ w.unfailed;
       }
 
   module _ {X Y : Type 0} {lawful : X → Type 0} {text : X → List ℕ} {read : List ℕ → Result (X × List ℕ) exact.Stop} (code : IsCode lawful text read) (says : Y → X → Type 0) where

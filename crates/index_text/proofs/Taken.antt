@@ -22,9 +22,9 @@ use Rattle.index_text.specs.Next.{IsLast, IsLastPath, IsNext, IsHeading, heading
 use Rattle.index_text.specs.Steps.{IsRowsText, IsHitsText, IsSkippedText, last_path, last_word, last_skipped}
 use Rattle.index_text.specs.Takes.{Lacks, IsAll, TakesHit, TakesSkipped, TakesPaths, TakesRow, TakesRows}
 use Rattle.index_text.proofs.LineCodes.{heading_code, hit_code, skipped_code}
-use Rattle.index_text.proofs.States.{Behind, rows_grammar, skipped_grammar, hits_grammar, rows_some, rows_back, skipped_some, skipped_back}
+use Rattle.index_text.proofs.States.{Following, rows_grammar, skipped_grammar, hits_grammar, rows_some, rows_back, skipped_some, skipped_back}
 use Rattle.index_text.proofs.Loops.{Reaches, reach_then, reach_heading, end_path, end_of, end_of_is, end_path_is, end_word_is, hits_push, paths_push, rows_push, path_stays, end_stays, word_stays, reach_hits, reach_paths, reach_rows, lines_of, lines_push}
-use Rattle.index_text.proofs.Reasons.{taken_none, taken_then, taken_asked, taken_all, all_behind, lacks_behind, lacks_line, lacks_first, lacks_asked}
+use Rattle.index_text.proofs.Reasons.{taken_none, taken_then, taken_asked, taken_all, all_after, lacks_after, lacks_line, lacks_first, lacks_asked}
 
 lines_append : {X : Type 0} (f : X → List ℕ) (xs : List X) (x : X) → flat_map f xs ++ f x ≡ flat_map f (xs ++ x ∷ [])
 lines_append f xs x = sym (flat_map-append f xs (x ∷ []) ∙ ap (λ l. flat_map f xs ++ l) (append-nil (f x)))
@@ -107,7 +107,7 @@ hits_stop {many} {start} {first} {old} {now} {intake} {here} {left} t w there be
     let all : n ≡ length now.hits + suc k = omega (arith, t.count, some, c) in
     let stuck = subst (λ l. OrMemory (IsStuck (hit_at l) intake.lines (room_of intake) (rest_of intake here) there before since) f) (sym (end_path_is now.hits)) h in
     let line = lacks_line (hits_grammar w k end ok) (hit_code end ok) (rest_of intake here) there intake.lines (room_of intake) before since f stuck in
-    lacks_behind t.taken (λ rest. reach_hits w None now.hits tt t.are (suc k) rest n all) there begin before since f same line
+    lacks_after t.taken (λ rest. reach_hits w None now.hits tt t.are (suc k) rest n all) there begin before since f same line
 
 end_of_append : (last : Option (List ℕ)) (ps qs : List (List ℕ)) → end_of last (ps ++ qs) ≡ end_of (end_of last ps) qs
 end_of_append last [] qs = refl
@@ -166,14 +166,14 @@ module _ {start : Intake} {first : Option (List ℕ)} {old now : Drafted} {intak
   paths_end after there a b c d asked = (t.paths, t.are, taken_all t.taken after there a b asked, t.kept)
 
   pub paths_asked : (after : Intake) (there : Option (List ℕ)) (begin a b : ℕ) (f : TextFault) → IsLongAsked intake after here there a b (Err f) → a ≡ begin → Lacks (IsSkippedText (last_skipped old)) start first there begin b f
-  paths_asked after there begin a b f asked same = lacks_behind t.taken paths_reach there begin a b f same (lacks_asked ([], ([], tt, refl)) intake after here there a b f asked)
+  paths_asked after there begin a b f asked same = lacks_after t.taken paths_reach there begin a b f same (lacks_asked ([], ([], tt, refl)) intake after here there a b f asked)
 
   pub paths_stop : (mid : Intake) (on there : Option (List ℕ)) (begin a b c : ℕ) (f : TextFault) → IsLongAsked intake mid here on a b (Ok true) → a ≡ begin → b ≡ a
       → OrMemory (IsStuck (skipped_at (last_skipped now)) mid.lines (room_of mid) (rest_of mid on) there b c) f → Lacks (IsSkippedText (last_skipped old)) start first there begin c f
   paths_stop mid on there begin a b c f asked same unfailed h =
       let last = last_skipped now in
       let ok : IsLastPath last = last_is now paths_rise in
-      lacks_behind t.taken paths_reach there begin a c f same
+      lacks_after t.taken paths_reach there begin a c f same
       (lacks_first (skipped_some last) (skipped_back last) (skipped_grammar last ok) (skipped_code last ok) intake mid here on there a b c f asked unfailed h)
 
 -- some rows
@@ -229,27 +229,27 @@ module _ {start : Intake} {first : Option (List ℕ)} {now : Drafted} {intake : 
       (t.are, subst (ArePaths None) none tt, t.hits, subst (λ l. IsAll l start first there) text (taken_all t.taken after there a b asked))
 
   pub rows_asked : (after : Intake) (there : Option (List ℕ)) (begin a b : ℕ) (f : TextFault) → IsLongAsked intake after here there a b (Err f) → a ≡ begin → Lacks (IsRowsText None) start first there begin b f
-  rows_asked after there begin a b f asked same = lacks_behind t.taken rows_reach there begin a b f same (lacks_asked ([], ([], [], tt, tt, refl)) intake after here there a b f asked)
+  rows_asked after there begin a b f asked same = lacks_after t.taken rows_reach there begin a b f same (lacks_asked ([], ([], [], tt, tt, refl)) intake after here there a b f asked)
 
   pub rows_stop : (mid : Intake) (on there : Option (List ℕ)) (begin a b c : ℕ) (f : TextFault) → IsLongAsked intake mid here on a b (Ok true) → a ≡ begin → b ≡ a
       → OrMemory (IsStuck (heading_at (last_word now)) mid.lines (room_of mid) (rest_of mid on) there b c) f → Lacks (IsRowsText None) start first there begin c f
   rows_stop mid on there begin a b c f asked same unfailed h =
       let last = last_word now in
-      lacks_behind t.taken rows_reach there begin a c f same
+      lacks_after t.taken rows_reach there begin a c f same
       (lacks_first (rows_some last) (rows_back last) (rows_grammar last) (heading_code last last_ok) intake mid here on there a b c f asked unfailed h)
 
   module _ (mid after : Intake) (on there : Option (List ℕ)) (a b : ℕ) (asked : IsLongAsked intake mid here on a b (Ok true)) (laid : List ℕ) (x : Heading) (is : IsHeading (last_word now) x) (line : IsTaken (heading_text x) 1 mid after on there) where
     heading_taken : IsTaken (flat_map row_text now.rows ++ heading_text x) (lines_of now.rows + 1) start after first there
     heading_taken = taken_then t.taken (taken_then (taken_asked intake mid here on a b asked) line (heading_text x) 1 refl refl) (flat_map row_text now.rows ++ heading_text x) (lines_of now.rows + 1) refl refl
 
-    heading_reach : (rest : List ℕ) → Reaches (IsRowsText None) ((flat_map row_text now.rows ++ heading_text x) ++ rest) (Behind x) rest (lines_of now.rows + 1)
+    heading_reach : (rest : List ℕ) → Reaches (IsRowsText None) ((flat_map row_text now.rows ++ heading_text x) ++ rest) (Following x) rest (lines_of now.rows + 1)
     heading_reach rest =
-        subst (λ l. Reaches (IsRowsText None) l (Behind x) rest (lines_of now.rows + 1)) (sym (append_assoc (flat_map row_text now.rows) (heading_text x) rest))
+        subst (λ l. Reaches (IsRowsText None) l (Following x) rest (lines_of now.rows + 1)) (sym (append_assoc (flat_map row_text now.rows) (heading_text x) rest))
         (reach_then (lines_of now.rows + 1) refl (rows_reach (heading_text x ++ rest)) (reach_heading (last_word now) last_ok x is rest))
 
     -- why what follows a heading isn't taken
-    pub rows_behind : (last : Option (List ℕ)) (begin c d : ℕ) (f : TextFault) → c ≡ begin → Lacks (Behind x) after there last c d f → Lacks (IsRowsText None) start first last begin d f
-    rows_behind last begin c d f same h = lacks_behind heading_taken heading_reach last begin c d f same h
+    pub rows_after : (last : Option (List ℕ)) (begin c d : ℕ) (f : TextFault) → c ≡ begin → Lacks (Following x) after there last c d f → Lacks (IsRowsText None) start first last begin d f
+    rows_after last begin c d f same h = lacks_after heading_taken heading_reach last begin c d f same h
 
     pub row_many : (many : ℕ) → SaysHeading laid (prefixes.Word many) x → 1 ≤ many
     row_many many says = let s = says_word x laid many says in let k : IsHeading (last_word now) (word laid s.0) = subst (IsHeading (last_word now)) s.2 is in omega (arith, k.1, s.1)
@@ -262,7 +262,7 @@ module _ {start : Intake} {first : Option (List ℕ)} {now : Drafted} {intake : 
         → ((n : ℕ) → many ≡ capped n → TakesRow laid n now new after last there end c d (Err f)) → Lacks (IsRowsText None) start first end begin d f
     row_stop many says new last end begin c d f same h =
         let s = says_word x laid many says in
-        rows_behind end begin c d f same (subst (λ y. Lacks (Behind y) after there end c d f) (sym s.2) (h s.0 s.1))
+        rows_after end begin c d f same (subst (λ y. Lacks (Following y) after there end c d f) (sym s.2) (h s.0 s.1))
 
     pub rows_next : (many : ℕ) → SaysHeading laid (prefixes.Word many) x → (new : Drafted) (last : Intake) (end : Option (List ℕ)) (c d : ℕ)
         → ((n : ℕ) → many ≡ capped n → TakesRow laid n now new after last there end c d (Ok tt)) → TakenRows start first new last end
@@ -304,10 +304,10 @@ module _ {start : Intake} {first : Option (List ℕ)} {now : Drafted} {intake : 
           let prefix : heading_text x ≡ skipped_line laid = ap heading_text (says_skipped x laid says) in
           let text : (flat_map row_text now.rows ++ heading_text x) ++ flat_map skipped_line h.0 ≡ text_of new.rows new.skipped =
           append_assoc (flat_map row_text now.rows) (heading_text x) (flat_map skipped_line h.0) ∙ ap (λ l. flat_map row_text now.rows ++ (l ++ flat_map skipped_line h.0)) prefix ∙ (λ i. flat_map row_text (sym rows i) ++ flat_map skipped_line (sym all i)) in
-          (subst (AreRows None) (sym rows) t.are, subst (ArePaths None) (sym all) (is_next, are), ap (λ (d : Drafted). d.hits) h.3 ∙ ap (λ (d : Drafted). d.hits) m ∙ t.hits, all_behind heading_taken h.2 text)
+          (subst (AreRows None) (sym rows) t.are, subst (ArePaths None) (sym all) (is_next, are), ap (λ (d : Drafted). d.hits) h.3 ∙ ap (λ (d : Drafted). d.hits) m ∙ t.hits, all_after heading_taken h.2 text)
 
       pub rows_last : (new : Drafted) (last : Intake) (end : Option (List ℕ)) (begin c d : ℕ) (result : Result (Unit {0}) TextFault) → c ≡ begin → TakesPaths first_path new after last there end c d result → TakesRows new start last first end begin d result
       rows_last new last end begin c d (Ok u) same h = rows_paths new last end begin d h
       rows_last new last end begin c d (Err f) same h =
           let s = says_skipped x laid says in
-          rows_behind end begin c d f same (subst (λ y. Lacks (Behind y) after there end c d f) (sym s) (subst (λ (l : List (List ℕ)). Lacks (IsSkippedText (slice_get l (length l - 1))) after there end c d f) one h))
+          rows_after end begin c d f same (subst (λ y. Lacks (Following y) after there end c d f) (sym s) (subst (λ (l : List (List ℕ)). Lacks (IsSkippedText (slice_get l (length l - 1))) after there end c d f) one h))

@@ -72,7 +72,7 @@ encode_one : (c : ℕ) → c < 128 → encode c ≡ c ∷ []
 unfolding encode
 encode_one c low = rw (lt-ltb c 128 low) refl
 
--- bytes behind which these make the character d
+-- bytes after which these make the character d
 made : (d : ℕ) (q e bs : List ℕ) → IsTried e → scalar d ≡ true → encode d ≡ bs → bs ≡ q ++ e → Completes q
 made d q e bs t s k same = (e, t, utf8_char d (q ++ e) s (k ∙ same))
 

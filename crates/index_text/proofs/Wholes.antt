@@ -15,7 +15,7 @@ use Rattle.index_text.specs.Steps.{IsRowsText}
 use Rattle.index_text.specs.Takes.{Lacks, IsAll}
 use Rattle.index_text.specs.Faults.{HasReasonIn}
 use Rattle.index_text.proofs.Loops.{reach_same}
-use Rattle.index_text.proofs.Reasons.{lacks_behind, lacks_asked, taken_filled, all_behind}
+use Rattle.index_text.proofs.Reasons.{lacks_after, lacks_asked, taken_filled, all_after}
 
 to_rows : (bytes : List ℕ) → IsIndexText bytes → IsRowsText None bytes
 to_rows bytes t = (t.0, t.1, t.2.rows, t.2.skipped, t.2.text)
@@ -54,12 +54,12 @@ module _ (start : Intake) (left : Option (List ℕ)) (most : ℕ) (none : start.
   module _ (mid : Intake) (left1 left' : Option (List ℕ)) (first before : ℕ) (more : Bool) (filled : IsLongFilled start mid left left1 first before (Ok more)) where
     -- why no rows were taken
     pub text_fault : (now : ℕ) (f : TextFault) → before ≡ first → Lacks (IsRowsText None) mid left1 left' before now f → HasReasonIn most left left' first now f
-    text_fault now f same h = reason left' first now f (lacks_behind (taken_filled start mid left left1 first before more filled) (λ rest. reach_same to_rows from_rows rest) left' first before now f same h)
+    text_fault now f same h = reason left' first now f (lacks_after (taken_filled start mid left left1 first before more filled) (λ rest. reach_same to_rows from_rows rest) left' first before now f same h)
 
     -- the text is all of the source
     pub all_read : (rs qs : List Row) (ps ss : List (List ℕ)) → qs ≡ rs → ss ≡ ps → AreRows None rs → ArePaths None ps → IsAll (text_of rs ps) mid left1 left' → IfSome left (λ bytes. (length bytes ≤ most) × ReadsAs bytes qs ss)
     all_read rs qs ps ss e f rows paths h =
-        let a = all_behind (taken_filled start mid left left1 first before more filled) h refl in
+        let a = all_after (taken_filled start mid left left1 first before more filled) h refl in
         by left (subst (λ (r : Option (List ℕ)). IfSome r (λ bytes. bytes ≡ text_of rs ps)) rest_is a.all) (subst (λ (m : ℕ). length (text_of rs ps) ≤ m) room_is a.within)
       where
         by : (r : Option (List ℕ)) → IfSome r (λ bytes. bytes ≡ text_of rs ps) → length (text_of rs ps) ≤ most → IfSome r (λ bytes. (length bytes ≤ most) × ReadsAs bytes qs ss)

@@ -166,7 +166,7 @@ key_whole (Some l) ok w more k h =
     ] in
     rw (le-leb (length w) 64 short) rest
 
--- a word above the last one and the space behind it
+-- a word above the last one and the space after it
 pub key_code : (last : Option (List ℕ)) → IsLast last → IsCode (IsKey last) (λ w. w ++ 32 ∷ []) (key_at last)
 unfolding Extends
 key_code last ok =

@@ -1,7 +1,7 @@
 //! The lines of an index text, taken from a source.
 ghost use Rattle.std.specs.Prelude.{◌≡◌};
 ghost use Rattle.std.specs.Option.{option_copied};
-ghost use Rattle.exact_text.specs.Intake.{IsTold};
+ghost use Rattle.exact_text.specs.Intake.{IsReported};
 ghost use Rattle.index_print.specs.Text.{hit_line, skipped_line};
 ghost use Rattle.index_text.specs.Texts.{IsHit};
 ghost use Rattle.index_text.specs.Lines.{heading_at, hit_at, skipped_at};
@@ -21,7 +21,7 @@ fn after_stop<I: Source>(
 ) -> Result<(), TextFault>
     ensures goes_on { GoesOn stop intake.old intake.new (I.left input.old) (I.left input.new) (I.faults input.old) (I.faults input.new)
         result }
-    ensures told { IsTold (I.faults input.old) (I.faults input.new) result }
+    ensures reported { IsReported (I.faults input.old) (I.faults input.new) result }
 {
     match stop {
         Stop::Memory => return Err(TextFault::Memory),
@@ -65,7 +65,7 @@ pub fn next_heading<I: Source>(
     ensures taken { TakesLine (IsHeading (option_copied last.entry)) heading_text (heading_at (option_copied last.entry))
         (SaysHeading out.new.items) intake.old intake.new (I.left input.old) (I.left input.new) (I.faults input.old) (I.faults input.new)
         result }
-    ensures told { IsTold (I.faults input.old) (I.faults input.new) result }
+    ensures reported { IsReported (I.faults input.old) (I.faults input.new) result }
 {
     loop {
         match try_heading(intake, last, out) {
@@ -107,7 +107,7 @@ pub fn next_hit<I: Source>(
     requires { IsLastPath (option_copied last) }
     ensures taken { TakesLine (IsHit (option_copied last.entry)) hit_line (hit_at (option_copied last.entry)) (SaysHit out.new.items)
         intake.old intake.new (I.left input.old) (I.left input.new) (I.faults input.old) (I.faults input.new) result }
-    ensures told { IsTold (I.faults input.old) (I.faults input.new) result }
+    ensures reported { IsReported (I.faults input.old) (I.faults input.new) result }
 {
     loop {
         match try_hit(intake, last, out) {
@@ -146,7 +146,7 @@ pub fn next_skipped<I: Source>(
     ensures taken { TakesLine (IsNext (option_copied last.entry)) skipped_line (skipped_at (option_copied last.entry))
         (SaysPath out.new.items) intake.old intake.new (I.left input.old) (I.left input.new) (I.faults input.old) (I.faults input.new)
         result }
-    ensures told { IsTold (I.faults input.old) (I.faults input.new) result }
+    ensures reported { IsReported (I.faults input.old) (I.faults input.new) result }
 {
     loop {
         match try_skipped(intake, last, out) {

@@ -1,7 +1,7 @@
 //! An index from a source.
 ghost use Rattle.std.specs.Prelude.{◌≡◌, ◌<◌, ◌≤◌, ◌^◌, length, IfOk, IfErr, IfSome, OnOk};
 ghost use Rattle.std.specs.Io.KnownBytes.{IsAtEnd};
-ghost use Rattle.exact_text.specs.Intake.{IsTold};
+ghost use Rattle.exact_text.specs.Intake.{IsReported};
 ghost use Rattle.index_text.specs.Faults.{budget, most_bytes, HasReasonIn};
 ghost use Rattle.index_text.specs.Texts.{ReadsAs};
 
@@ -23,7 +23,7 @@ pub fn read_index<I: Source>(alloc: Global, input: &mut I) -> Result<Index, Text
     ensures index { IfOk result (λ i. IfSome (I.left input.old) (λ bytes. (length bytes ≤ budget) × ReadsAs bytes i.rows i.skipped)) }
     ensures end { OnOk result (IsAtEnd (I.left input.new)) }
     ensures fault { IfErr result (HasReasonIn budget (I.left input.old) (I.left input.new) (I.faults input.old) (I.faults input.new)) }
-    ensures told { IsTold (I.faults input.old) (I.faults input.new) result }
+    ensures reported { IsReported (I.faults input.old) (I.faults input.new) result }
 {
     read_index_within(alloc, input, BUDGET)
 }
@@ -38,7 +38,7 @@ pub fn read_index_within<I: Source>(
     ensures index { IfOk result (λ i. IfSome (I.left input.old) (λ bytes. (length bytes ≤ most) × ReadsAs bytes i.rows i.skipped)) }
     ensures end { OnOk result (IsAtEnd (I.left input.new)) }
     ensures fault { IfErr result (HasReasonIn most (I.left input.old) (I.left input.new) (I.faults input.old) (I.faults input.new)) }
-    ensures told { IsTold (I.faults input.old) (I.faults input.new) result }
+    ensures reported { IsReported (I.faults input.old) (I.faults input.new) result }
 {
     let mut intake = LongIntake::new(alloc, most);
     // The first bytes make the key of the table.

@@ -1,7 +1,7 @@
 //! Index texts, taken from a source.
 ghost use Rattle.std.specs.Prelude.{◌≡◌, ℕ, ◌≤◌, [], ◌∷◌, ◌++◌, None, OnOk};
 ghost use Rattle.std.specs.Option.{option_copied};
-ghost use Rattle.exact_text.specs.Intake.{IsTold};
+ghost use Rattle.exact_text.specs.Intake.{IsReported};
 ghost use Rattle.index_text.specs.Numerals.{capped};
 ghost use Rattle.index_text.specs.Texts.{AreHits, AreRows, ArePaths};
 ghost use Rattle.index_text.specs.Takes.{TakesHit, TakesPaths, TakesRow, TakesRows, TakesSkipped};
@@ -61,7 +61,7 @@ fn take_skipped<I: Source>(
     requires { ArePaths None draft.old.skipped }
     ensures taken { TakesSkipped draft.old draft.new intake.old intake.new (I.left input.old) (I.left input.new)
         (I.faults input.old) (I.faults input.new) result }
-    ensures told { IsTold (I.faults input.old) (I.faults input.new) result }
+    ensures reported { IsReported (I.faults input.old) (I.faults input.new) result }
 {
     let last = bytes_of(draft.last_skipped());
     match next_skipped(intake, input, last, out) {
@@ -84,7 +84,7 @@ fn take_hit<I: Source>(
     requires { AreHits None draft.old.hits }
     ensures taken { TakesHit draft.old draft.new intake.old intake.new (I.left input.old) (I.left input.new)
         (I.faults input.old) (I.faults input.new) result }
-    ensures told { IsTold (I.faults input.old) (I.faults input.new) result }
+    ensures reported { IsReported (I.faults input.old) (I.faults input.new) result }
 {
     let last = bytes_of(draft.last_path());
     let figures = match next_hit(intake, input, last, out) {
@@ -110,7 +110,7 @@ fn take_row<I: Source>(
     requires many { 1 ≤ many }
     ensures taken { (n : ℕ) → many ≡ capped n → TakesRow word.now n draft.old draft.new intake.old intake.new (I.left input.old)
         (I.left input.new) (I.faults input.old) (I.faults input.new) result }
-    ensures told { IsTold (I.faults input.old) (I.faults input.new) result }
+    ensures reported { IsReported (I.faults input.old) (I.faults input.new) result }
 {
     let mut left = many;
     while left > 0 {
@@ -136,7 +136,7 @@ fn take_paths<I: Source>(
     requires before { ArePaths None draft.old.skipped }
     ensures taken { TakesPaths draft.old draft.new intake.old intake.new (I.left input.old) (I.left input.new) (I.faults input.old)
         (I.faults input.new) result }
-    ensures told { IsTold (I.faults input.old) (I.faults input.new) result }
+    ensures reported { IsReported (I.faults input.old) (I.faults input.new) result }
 {
     loop {
         match intake.goes_on(input) {
@@ -162,7 +162,7 @@ pub fn take_rows<I: Source>(
     requires empty { draft.old ≡ record { rows = []; hits = []; skipped = [] } }
     ensures taken { TakesRows draft.new intake.old intake.new (I.left input.old) (I.left input.new) (I.faults input.old)
         (I.faults input.new) result }
-    ensures told { IsTold (I.faults input.old) (I.faults input.new) result }
+    ensures reported { IsReported (I.faults input.old) (I.faults input.new) result }
 {
     loop {
         match intake.goes_on(input) {

@@ -4,7 +4,7 @@ use mathlib.Core.Option.{some, some-injective, some-ne-none}
 use lib.ListN.{get_elem?}
 use Rattle.std.proofs.lemmas.List.{length-map}
 use Rattle.std.proofs.lemmas.Bool.{ltb-true}
-use Rattle.firefly_outside.specs.Trees.{Path, Told, Calls}
+use Rattle.firefly_outside.specs.Trees.{Path, Contents, Calls}
 use Rattle.firefly_outside.specs.declared.tree.Kind.{Kind}
 use Rattle.firefly_outside.specs.declared.tree.Kind.TheVariants.{File, Dir}
 use Rattle.nub_rule.specs.Items.{Each}
@@ -32,7 +32,7 @@ to_map f [] k x e = absurd (some-ne-none x (sym e))
 to_map f (y ∷ xs) zero x e = ap (λ z. some (f z)) (some-injective y x e)
 to_map f (y ∷ xs) (suc k) x e = to_map f xs k x e
 
-module _ {S : Type 0} (tree : S → Option Told) (weak : S → List Path) (faults : S → ℕ) (calls : S → Calls) (root : Path) (p : Run) where
+module _ {S : Type 0} (tree : S → Option Contents) (weak : S → List Path) (faults : S → ℕ) (calls : S → Calls) (root : Path) (p : Run) where
   gives_by : (kind : Kind) (a b : Worker) (f : Findings) (v : Bool) (old new got : Option S) → (v ≡ true → new ≡ got) → GivesTree tree weak faults calls root p kind a b f (cond v old None) got
       → GivesTree tree weak faults calls root p kind a b f (cond v old None) (cond v new None)
   gives_by kind a b f true old new got e h = subst (λ (t : Option S). GivesTree tree weak faults calls root p kind a b f old t) (sym (e refl)) h

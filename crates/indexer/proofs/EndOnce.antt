@@ -3,7 +3,7 @@ use Rattle.std.proofs.Common.{◌≡◌, ℕ, ◌≤◌, Bool, true, false, List
 use Rattle.std.specs.Prelude.{IfSome, slice_index_or}
 use Rattle.std.specs.List.{flat_map, list_any}
 use Rattle.std.proofs.lemmas.Option.{same_Some}
-use Rattle.firefly_outside.specs.Trees.{Path, Told, Calls}
+use Rattle.firefly_outside.specs.Trees.{Path, Contents, Calls}
 use Rattle.firefly_outside.specs.Under.{IsUnder}
 use Rattle.firefly_outside.specs.declared.tree.Kind.TheVariants.{File, Dir}
 use Rattle.nub.specs.Ended.{Ended}
@@ -27,9 +27,9 @@ by_lost : {P : Type 0} (b : Bool) (piece : Index) → (b ≡ true → Done piece
 by_lost true piece lost go = absurd (not_memory piece (lost refl))
 by_lost false piece lost go = go refl
 
-module _ {S : Type 0} (tree : S → Option Told) (calls : S → Calls) (root : Path) (n : ℕ) (closed : Ended IndexValue Share Path) (findings : List Findings) (old mid new : List (Option S)) where
+module _ {S : Type 0} (tree : S → Option Contents) (calls : S → Calls) (root : Path) (n : ℕ) (closed : Ended IndexValue Share Path) (findings : List Findings) (old mid new : List (Option S)) where
   -- the workers' part and the rest
-  both : (t : Told) (own : S) → slice_index_or old n None ≡ Some own → (visits : List Visit) (pieces : List Index) (piece : Index) → IsWorkedOnce calls root n old mid visits pieces
+  both : (t : Contents) (own : S) → slice_index_or old n None ≡ Some own → (visits : List Visit) (pieces : List Index) (piece : Index) → IsWorkedOnce calls root n old mid visits pieces
       → ((i : ℕ) (d : Option S) → n ≤ i → slice_index_or mid i d ≡ slice_index_or old i d) → ((i : ℕ) (d : Option S) → (i ≡ n → ⊥) → slice_index_or new i d ≡ slice_index_or mid i d)
       → (last : S) → slice_index_or new n None ≡ Some last → CallsRest t root visits pieces (calls own) (calls last) (Done piece) → IsEachOnce calls t root n old new
   both t own is_own visits pieces piece worked above others last is_last rest =
@@ -56,17 +56,17 @@ module _ {S : Type 0} (tree : S → Option Told) (calls : S → Calls) (root : P
           let b = same_Some last r (sym is_last ∙ is) in
           ap (λ (x : S). of (calls x)) (sym b) ∙ (e ∙ ap (λ (x : S). of (calls x) ++ more) a)
 
-  module _ (o : Option Told) (own : S) (is_own : slice_index_or old n None ≡ Some own) (tell : AllTell tree o old)
-      (worked : (t : Told) → AllTell tree (Some t) old → list_any (λ f. f.lost) findings ≡ false → IsWorkedOnce calls root n old mid (flat_map (λ f. f.visits.items) findings) (flat_map (λ f. f.pieces.items) findings))
+  module _ (o : Option Contents) (own : S) (is_own : slice_index_or old n None ≡ Some own) (tell : AllTell tree o old)
+      (worked : (t : Contents) → AllTell tree (Some t) old → list_any (λ f. f.lost) findings ≡ false → IsWorkedOnce calls root n old mid (flat_map (λ f. f.visits.items) findings) (flat_map (λ f. f.pieces.items) findings))
       (visits : List Visit) (pieces : List Index) (lost : Bool) (is_visits : visits ≡ flat_map (λ f. f.visits.items) findings) (is_pieces : pieces ≡ flat_map (λ f. f.pieces.items) findings) (is_lost : lost ≡ list_any (λ f. f.lost) findings)
       (above : (i : ℕ) (d : Option S) → n ≤ i → slice_index_or mid i d ≡ slice_index_or old i d)
       (others : (i : ℕ) (d : Option S) → (i ≡ n → ⊥) → slice_index_or new i d ≡ slice_index_or mid i d) where
     done_once : (piece : Index) → (lost ≡ true → Done piece ≡ Memory) → ((s r : S) → slice_index_or mid n None ≡ Some s → slice_index_or new n None ≡ Some r → IfSome (tree s) (λ t. CallsRest t root visits pieces (calls s) (calls r) (Done piece)))
-        → (last : S) → slice_index_or new n None ≡ Some last → (q : Option Told) → o ≡ q → IfSome q (λ t. IsEachOnce calls t root n old new)
+        → (last : S) → slice_index_or new n None ≡ Some last → (q : Option Contents) → o ≡ q → IfSome q (λ t. IsEachOnce calls t root n old new)
     done_once piece memory rest last is_last None e = tt
     done_once piece memory rest last is_last (Some t) e = by_lost lost piece memory (λ kept.
-        let tells : AllTell tree (Some t) old = subst (λ (q : Option Told). AllTell tree q old) e tell in
-        let here = subst (λ (q : Option Told). IfSome q (λ t. CallsRest t root visits pieces (calls own) (calls last) (Done piece))) (tells n own is_own) (rest own last (above n None (omega arith) ∙ is_own) is_last) in
+        let tells : AllTell tree (Some t) old = subst (λ (q : Option Contents). AllTell tree q old) e tell in
+        let here = subst (λ (q : Option Contents). IfSome q (λ t. CallsRest t root visits pieces (calls own) (calls last) (Done piece))) (tells n own is_own) (rest own last (above n None (omega arith) ∙ is_own) is_last) in
         let did = worked t tells (sym is_lost ∙ kept) in
         both t own is_own visits pieces piece
         (subst (λ (vs : List Visit). IsWorkedOnce calls root n old mid vs pieces) (sym is_visits) (subst (λ (ps : List Index). IsWorkedOnce calls root n old mid (flat_map (λ (f : Findings). f.visits.items) findings) ps) (sym is_pieces) did))

@@ -16,7 +16,7 @@ use Rattle.bounded_buffer.specs.declared.ends.TakeEnd.TheVariants.{ClosedEmpty, 
 use Rattle.bounded_buffer.specs.Calls.{Looked, Ran, HasShut, did_last, put_did, take_did, wait_count}
 use Rattle.bounded_buffer.specs.Parts.{Used, more_full, more_empty}
 use Rattle.bounded_buffer.specs.Plain.{part_of, put_did as did_put, take_did as did_take}
-use Rattle.firefly_outside.specs.Trees.{Path, Told}
+use Rattle.firefly_outside.specs.Trees.{Path, Contents}
 use Rattle.larch_actions.specs.declared.event.Event.{Event}
 use Rattle.nub.specs.Idle.{IsIdle}
 use Rattle.nub.specs.Rest.{Adds, IsSame}
@@ -27,7 +27,7 @@ use Rattle.index_rule.specs.Distinct.{AreDisjoint}
 use Rattle.index_rule.specs.Notes.{child_more}
 use Rattle.index_rule.specs.Shares.{Share, AreAlike, IsChildOfTook, IsItemAt, MayPut, covered, noted, paths_of, paths_in, paths_put, paths_taken}
 use Rattle.index_rule.specs.Lists.{ArePut, IsPutSo}
-use Rattle.index_rule.specs.Work.{IsBehind, IsNewTo, ItemFits, MayChange, MovesCounts, MovesDirs, dirs_of, files_of, moved, moved_by, ring_in, ring_of, waiting_of}
+use Rattle.index_rule.specs.Work.{IsAfter, IsNewTo, ItemFits, MayChange, MovesCounts, MovesDirs, dirs_of, files_of, moved, moved_by, ring_in, ring_of, waiting_of}
 use Rattle.index_rule.specs.declared.dirs.PutDirs.{PutDirs}
 use Rattle.index_rule.specs.declared.dirs.PutDirs.TheVariants.{Within, Passed, Memory}
 use Rattle.index_rule.specs.declared.value.IndexItem.{IndexItem}
@@ -137,7 +137,7 @@ pub makes_between : (p : Run) (m : More) (a b : Worker) → IsBetween p a → Ma
 makes_between p m a b between made = still_between None [] [] p a b between (made.called None [] 0).back
 
 -- who gave the list back called so
-pub gave_makes : (p : Run) (m : More) (a b : Worker) → ((o : Option Told) (root : Path) → HasCalled o root [] p 0 1 a b × ((k : ℕ) → HasCalled o root [] p k 0 a b)) → Gets p m a b → Makes p m a b
+pub gave_makes : (p : Run) (m : More) (a b : Worker) → ((o : Option Contents) (root : Path) → HasCalled o root [] p 0 1 a b × ((k : ℕ) → HasCalled o root [] p k 0 a b)) → Gets p m a b → Makes p m a b
 gave_makes p m a b called gets = record { called = λ o root. (called o root).1; gets = gets }
 
 -- a broadcast of the list's condition was the last
@@ -255,7 +255,7 @@ of_after p more a b P Q between gets was step r at =
     subst Q (same_Some got.0 r (sym got.1 ∙ at)) (step s got.0 got.2 (was s between.2.share))
 
 -- the list of directories changes: directories leave its end, or come there
-pub list_moves : (root : Path) (x : IndexValue) (d : DirsInWork) (s : Share) → IsBehind 0 x → MovesDirs (waiting_of x) d.list.waiting.items s (moved_by x (Dirs d) s) → MovesCounts x (Dirs d) s (moved_by x (Dirs d) s)
+pub list_moves : (root : Path) (x : IndexValue) (d : DirsInWork) (s : Share) → IsAfter 0 x → MovesDirs (waiting_of x) d.list.waiting.items s (moved_by x (Dirs d) s) → MovesCounts x (Dirs d) s (moved_by x (Dirs d) s)
     → MayChange root 0 x (Dirs d) s (moved_by x (Dirs d) s)
 list_moves root (Dirs e) d s kind go counts = record { kind = refl; moves = (go, counts) }
 list_moves root (Ring q) d s kind go counts = absurd (kind refl)
@@ -376,7 +376,7 @@ pub gets_stay : (p : Run) (xs : List Path) (a b : Worker) → Gets p (moved_more
 gets_stay p xs a b gets = gets_as p (moved_more (drop (length xs) xs) (drop (length xs) xs)) nothing a b (take_more xs xs [] (sym (append-nil xs))) gets
 
 -- the directory that was got is new to the thread
-pub new_dir : (root : Path) (x : IndexValue) (s : Share) (ys : List Path) (got : Option Path) → IsBehind 0 x → IsNewTo root 0 s x → waiting_of x ≡ ys ++ option_to_list got → IfSome got (λ dir. ¬ Contains s.took dir)
+pub new_dir : (root : Path) (x : IndexValue) (s : Share) (ys : List Path) (got : Option Path) → IsAfter 0 x → IsNewTo root 0 s x → waiting_of x ≡ ys ++ option_to_list got → IfSome got (λ dir. ¬ Contains s.took dir)
 new_dir root (Ring q) s ys got kind new e = absurd (kind refl)
 new_dir root (Dirs d) s ys None kind new e = tt
 new_dir root (Dirs d) s ys (Some dir) kind new e =

@@ -10,7 +10,7 @@ use Rattle.index_rule.specs.Counting.{distinct_append}
 use Rattle.index_rule.specs.Distinct.{AreDistinct}
 use Rattle.indexer.specs.Once.{joined, AreSince}
 
--- the list of the last one behind the others
+-- the list of the last one after the others
 joined-last : (parts : List (List Path)) (rest : List Path) → joined (parts ++ rest ∷ []) ≡ joined parts ++ rest
 joined-last parts rest = flat_map-append (λ (ps : List Path). ps) parts (rest ∷ []) ∙ ap (λ l. joined parts ++ l) (append-nil rest)
 
@@ -32,7 +32,7 @@ module _ (Mine Under : Path → Type 0) (parts : List (List Path)) (rest : List 
     ])),
   )
 
--- an element behind others, by its place
+-- an element after others, by its place
 at_last : {X : Type 0} (xs : List X) (x y : X) (k : ℕ) → get_elem? (xs ++ x ∷ []) k ≡ some y → (get_elem? xs k ≡ some y) ⊎ ((k ≡ length xs) × (x ≡ y))
 at_last [] x y zero e = inr (refl, some-injective x y e)
 at_last [] x y (suc k) e = absurd (some-ne-none y (sym e))
@@ -65,7 +65,7 @@ since_all {S} calls of n old new parts rest many each last = record {
         length_last [] = refl
         length_last (y ∷ ys) = ap suc (length_last ys)
 
--- lists behind the first n, none of which has anything, are none
+-- lists after the first n, none of which has anything, are none
 pub joined-take : (n : ℕ) (lists : List (List Path)) → ((k : ℕ) (ps : List Path) → n ≤ k → get_elem? lists k ≡ some ps → ps ≡ []) → joined (take n lists) ≡ joined lists
 joined-take zero lists none = sym (all_none lists (λ k ps at. none k ps (omega arith) at))
   where

@@ -4,7 +4,7 @@ use Rattle.std.specs.Prelude.{Contains, All}
 use Rattle.std.specs.List.{flat_map}
 use Rattle.std.proofs.lemmas.List.Concat.{flat_map-append}
 use Rattle.std.proofs.lemmas.List.Elements.{All-append, All-cons, All-head, All-nil, All-tail, All-weaker, Contains-append_cases, Contains-append_left, Contains-append_right}
-use Rattle.firefly_outside.specs.Trees.{Calls, Path, Told, child}
+use Rattle.firefly_outside.specs.Trees.{Calls, Path, Contents, child}
 use Rattle.walker.proofs.Children.{child_name}
 use Rattle.walker.proofs.ListLemmas.{AllPairs-head, AllPairs-nil, AllPairs-tail, Contains-map, Contains-unmap, Distinct-map}
 use Rattle.walker.specs.Pile.{AreApart}
@@ -431,7 +431,7 @@ share_read p loaded then_lot kept files more taken path lost a b between is gets
     (subst (λ l. Gets p (record nothing { files_taken = l }) a b) is gets) (λ s at. (was s at, new s at)) (λ s r grows h. gathered_read p.world loaded kept files s r path h.0 h.1 grows then_lot more lost reads)
 
 -- the pieces that were made of a list of read files
-pub made_of : (w root : Path) (loaded made : List ReadFile) (ps : List Index) (kept : List Index) (files : List Path) (lost : Bool) (s : Share) → root ≡ w → made ≡ loaded → ((o : Option Told) → AreRead o made → All (IsFilesPiece o root) ps)
+pub made_of : (w root : Path) (loaded made : List ReadFile) (ps : List Index) (kept : List Index) (files : List Path) (lost : Bool) (s : Share) → root ≡ w → made ≡ loaded → ((o : Option Contents) → AreRead o made → All (IsFilesPiece o root) ps)
     → ((q : Path) → IsCovered ps q ↔ IsReadAt root made q) → (AreDistinct (lot_paths made) → AreApart ps) → HasGathered w (lot_paths loaded) kept files lost s → (p : Path) → times p (flat_map (covered w) ps) ≡ times p (lot_paths loaded)
 made_of w root loaded made ps kept files lost s is same pieces covers apart was p =
     let once = distinct_left (lot_paths loaded) (flat_map (covered w) kept ++ paths_put w 2 s) was.once in
@@ -450,11 +450,11 @@ not_due loaded last due off says end = nil_from_length loaded.files.items (⊎_e
     some_or_none zero = inl (omega arith)
     some_or_none (suc n) = inr (omega arith)
 
-pub nothing_read : (tree : Option Told) (calls : Calls) → IfSome tree (λ t. calls.files_read ≡ calls.files_read ++ [])
+pub nothing_read : (tree : Option Contents) (calls : Calls) → IfSome tree (λ t. calls.files_read ≡ calls.files_read ++ [])
 nothing_read None calls = tt
 nothing_read (Some t) calls = sym (append-nil calls.files_read)
 
-pub read_on : (o tree : Option Told) (start mid last : Calls) (files more : List Path) → o ≡ tree → IfSome tree (λ t. mid.files_read ≡ start.files_read ++ files) → IfSome o (λ t. last.files_read ≡ mid.files_read ++ more) → IfSome tree (λ t. last.files_read ≡ start.files_read ++ (files ++ more))
+pub read_on : (o tree : Option Contents) (start mid last : Calls) (files more : List Path) → o ≡ tree → IfSome tree (λ t. mid.files_read ≡ start.files_read ++ files) → IfSome o (λ t. last.files_read ≡ mid.files_read ++ more) → IfSome tree (λ t. last.files_read ≡ start.files_read ++ (files ++ more))
 read_on o None start mid last files more same a b = tt
 read_on o (Some t) start mid last files more same a b =
     let c : last.files_read ≡ mid.files_read ++ more = subst (λ u. IfSome u (λ t. last.files_read ≡ mid.files_read ++ more)) same b in

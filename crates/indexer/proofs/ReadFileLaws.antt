@@ -2,7 +2,7 @@
 use Rattle.std.proofs.Common.{◌≡◌, ℕ, Bool, true, false, ◌||◌, List, [], Option, None, refl, sym, subst, ◌∙◌}
 use Rattle.std.specs.Prelude.{All}
 use Rattle.std.proofs.lemmas.List.Elements.{All-nil}
-use Rattle.firefly_outside.specs.Trees.{Path, Told, Calls}
+use Rattle.firefly_outside.specs.Trees.{Path, Contents, Calls}
 use Rattle.firefly_outside.specs.declared.tree.Kind.TheVariants.{File as FileKind}
 use Rattle.word_index.specs.Index.{Index}
 use Rattle.index_findings.specs.declared.findings.Fault.{Fault}
@@ -16,7 +16,7 @@ use Rattle.indexer.specs.Walks.{HasDone}
 use Rattle.indexer.proofs.Turning.{called_none, called_then, still_between}
 use Rattle.indexer.proofs.WalkSteps.{done_along, done_less, done_none, done_on, done_pieces}
 
-module _ (o : Option Told) (root : Path) where
+module _ (o : Option Contents) (root : Path) where
   -- nothing was given
   pub given_none : (p : Run) (m : ℕ) (kept : List Index) (a : Worker) → HasGiven o root p m kept kept a a
   given_none p m kept a = record { called = called_none o root p m a; kept = λ all. all }
@@ -34,7 +34,7 @@ none_either : (lost more : Bool) → (lost || more) ≡ false → lost ≡ false
 none_either true more e = e
 none_either false more e = refl
 
-module _ {S : Type 0} (tree : S → Option Told) (weak : S → List Path) (faults : S → ℕ) (calls : S → Calls) (root : Path) (p : Run) where
+module _ {S : Type 0} (tree : S → Option Contents) (weak : S → List Path) (faults : S → ℕ) (calls : S → Calls) (root : Path) (p : Run) where
   -- nothing was parsed yet
   pub parsed_none : (s : S) (files : List ReadFile) (kept : List Index) (a : Worker) → files ≡ [] → kept ≡ [] → HasParsed tree weak faults calls root p s s files [] kept a a None false
   parsed_none s files kept a no_files none = record {
@@ -51,8 +51,8 @@ module _ {S : Type 0} (tree : S → Option Told) (weak : S → List Path) (fault
   parsed_on s r q files more old mid new a b c fault lost one two = record {
     tree_stays = two.tree_stays ∙ one.tree_stays;
     weak_stays = two.weak_stays ∙ one.weak_stays;
-    read = subst (λ (o : Option Told). AreRead o more) one.tree_stays two.read;
-    kept = λ all. subst (λ (o : Option Told). All (IsFilesPiece o root) mid → All (IsFilesPiece o root) new) one.tree_stays two.kept (one.kept all);
+    read = subst (λ (o : Option Contents). AreRead o more) one.tree_stays two.read;
+    kept = λ all. subst (λ (o : Option Contents). All (IsFilesPiece o root) mid → All (IsFilesPiece o root) new) one.tree_stays two.kept (one.kept all);
     done = λ count before d h.
         done_along FileKind (tree s) root (weak s) count before p d (tree r) (weak r) one.tree_stays one.weak_stays (faults r) (faults q) (calls r) (calls q) 0 0 b c [] [] None fault false lost
         (one.done count before d h) (two.done count before d);

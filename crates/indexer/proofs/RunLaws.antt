@@ -6,7 +6,7 @@ use Rattle.std.proofs.lemmas.List.Elements.{All-append, All-nil}
 use Rattle.std.proofs.lemmas.Option.{same_Some}
 use mathlib.Core.Option.{some, some-injective, some-ne-none}
 use lib.ListN.{get_elem?}
-use Rattle.firefly_outside.specs.Trees.{Path, Told, Calls}
+use Rattle.firefly_outside.specs.Trees.{Path, Contents, Calls}
 use Rattle.firefly_outside.specs.declared.tree.Kind.{Kind}
 use Rattle.nub_rule.specs.Items.{Each}
 use Rattle.nub.specs.Ended.{IsFirst, IsDone, KeepsLocks}
@@ -29,10 +29,10 @@ use Rattle.index_rule.specs.Work.{KeepsWork}
 abbrev pub no_share : Path → ℕ → Share
 no_share w t = blank
 
--- behind the first
-pub behind_first : {A : Type 0} (xs : List A) (n : ℕ) (t : A) → get_elem? (remove xs 0) n ≡ some t → get_elem? xs (suc n) ≡ some t
-behind_first [] n t e = absurd (some-ne-none t (sym e))
-behind_first (x ∷ xs) n t e = e
+-- after the first
+pub past_first : {A : Type 0} (xs : List A) (n : ℕ) (t : A) → get_elem? (remove xs 0) n ≡ some t → get_elem? xs (suc n) ≡ some t
+past_first [] n t e = absurd (some-ne-none t (sym e))
+past_first (x ∷ xs) n t e = e
 
 pub at_first : {A : Type 0} (xs : List A) (x : A) → 0 < length xs → x ≡ get_or xs 0 x → get_elem? xs 0 ≡ some x
 at_first [] x low e = absurd (omega arith)
@@ -59,13 +59,13 @@ pub first_fresh : (p : Run) (n : ℕ) (t : Worker) → IsFirst p no_share n t �
 first_fresh p n t first = ((n, blank, idle_first p no_share n t first), first.share)
 
 -- where all came back from threads that had done nothing, all that was put at the buffer of pieces are pieces of the tree
-puts_first : (o : Option Told) (root : Path) (ps : List Index) (p : Run) (n : ℕ) (a b : Worker) → IsFirst p no_share n a → ComesBack o root ps p a b → (s : Share) → b.share ≡ Some s → AllPut (IsPieceItem o root) 2 s
+puts_first : (o : Option Contents) (root : Path) (ps : List Index) (p : Run) (n : ℕ) (a b : Worker) → IsFirst p no_share n a → ComesBack o root ps p a b → (s : Share) → b.share ≡ Some s → AllPut (IsPieceItem o root) 2 s
 puts_first o root ps p n a b first back s at =
     let r = back n blank (idle_first p no_share n a first) in
     subst (λ (u : Share). AllPut (IsPieceItem o root) 2 u) (same_Some r.0 s (sym r.1.share ∙ at)) (r.2.puts (All-nil (λ (q : ℕ × IndexItem). IsPieceItem o root q.1)))
 
 -- what was taken are pieces of the tree, and so are those that are left
-pieces_first : (o : Option Told) (root : Path) (ps : List Index) (p : Run) (n : ℕ) (a b : Worker) → IsFirst p no_share n a → ComesBack o root ps p a b → (s : Share) → b.share ≡ Some s → AllTaken (IsPieceItem o root) 2 s
+pieces_first : (o : Option Contents) (root : Path) (ps : List Index) (p : Run) (n : ℕ) (a b : Worker) → IsFirst p no_share n a → ComesBack o root ps p a b → (s : Share) → b.share ≡ Some s → AllTaken (IsPieceItem o root) 2 s
     → All (IsFilesPiece o root) ps
 pieces_first o root ps p n a b first back s at taken =
     let r = back n blank (idle_first p no_share n a first) in
@@ -91,7 +91,7 @@ thread_of (x ∷ threads) (r ∷ shares) each (suc n) s at =
     let tail : map (λ t. t.share) threads ≡ map (λ s. Some s) shares = cc in
     thread_of threads shares tail n s at
 
-module _ {S : Type 0} (tree : S → Option Told) (weak : S → List Path) (faults : S → ℕ) (calls : S → Calls) (root : Path) (p : Run) where
+module _ {S : Type 0} (tree : S → Option Contents) (weak : S → List Path) (faults : S → ℕ) (calls : S → Calls) (root : Path) (p : Run) where
   -- each worker came back
   gives_idle : (kind : Kind) (a b : Worker) (f : Findings) (given got : Option S) → GivesTree tree weak faults calls root p kind a b f given got → (n : ℕ) (s : Share) → IsIdle p n s a → (r : Share) × IsIdle p n r b
   gives_idle kind a b f None None h n s idle = let r = (h.0 None).back n s idle in (r.0, r.1)
@@ -100,10 +100,10 @@ module _ {S : Type 0} (tree : S → Option Told) (weak : S → List Path) (fault
   gives_idle kind a b f (Some u) None h n s idle = absurd h
 
   -- with pieces of the tree that all tell
-  gives_back : (o : Option Told) (kind : Kind) (a b : Worker) (f : Findings) (given got : Option S) → ((s : S) → given ≡ Some s → tree s ≡ o) → GivesTree tree weak faults calls root p kind a b f given got
+  gives_back : (o : Option Contents) (kind : Kind) (a b : Worker) (f : Findings) (given got : Option S) → ((s : S) → given ≡ Some s → tree s ≡ o) → GivesTree tree weak faults calls root p kind a b f given got
       → ComesBack o root f.pieces.items p a b
   gives_back o kind a b f None None tells h = (h.0 o).back
-  gives_back o kind a b f (Some u) (Some v) tells h = subst (λ (q : Option Told). ComesBack q root f.pieces.items p a b) (tells u refl) h.2.back
+  gives_back o kind a b f (Some u) (Some v) tells h = subst (λ (q : Option Contents). ComesBack q root f.pieces.items p a b) (tells u refl) h.2.back
   gives_back o kind a b f None (Some v) tells h = absurd h
   gives_back o kind a b f (Some u) None tells h = absurd h
 
@@ -116,7 +116,7 @@ module _ {S : Type 0} (tree : S → Option Told) (weak : S → List Path) (fault
       subst (λ (u : Worker). IsDone p 0 u) (some-injective last t e) (idle_done p 0 r.0 last r.1)
   all_done walkers n threads caller last back findings old new firsts own called worked (suc k) t e =
       let w = worked k t e in
-      let first = firsts (suc k) w.was (behind_first threads k w.was w.is_was) in
+      let first = firsts (suc k) w.was (past_first threads k w.was w.is_was) in
       let idle = gives_idle (kind_at walkers k) w.was t w.found (tree_at n old k) (tree_at n new k) w.gives (suc k) blank (idle_first p no_share (suc k) w.was first) in
       idle_done p (suc k) idle.0 t idle.1
 
@@ -128,7 +128,7 @@ module _ {S : Type 0} (tree : S → Option Told) (weak : S → List Path) (fault
       let within = (from_at findings k f e).0 in
       let there = some_at back k (omega arith) in
       let w = worked k there.0 there.1 in
-      let first = firsts (suc k) w.was (behind_first threads k w.was w.is_was) in
+      let first = firsts (suc k) w.was (past_first threads k w.was w.is_was) in
       let same : w.found ≡ f = some-injective w.found f (sym w.is_found ∙ e) in
       record {
         run = p;
@@ -139,7 +139,7 @@ module _ {S : Type 0} (tree : S → Option Told) (weak : S → List Path) (fault
         gives = subst (λ (g : Findings). GivesTree tree weak faults calls root p (kind_at walkers k) w.was there.0 g (tree_at n old k) (tree_at n new k)) same w.gives;
       }
 
-  module _ (o : Option Told) (walkers n : ℕ) (threads : List Worker) (caller last : Worker) (back : List Worker) (findings : List Findings) (old new : List (Option S))
+  module _ (o : Option Contents) (walkers n : ℕ) (threads : List Worker) (caller last : Worker) (back : List Worker) (findings : List Findings) (old new : List (Option S))
       (tell : AllTell tree o old) (firsts : Each (IsFirst p no_share) threads) (own : get_elem? threads 0 ≡ some caller) (called : HasCalled o root [] p 0 0 caller last)
       (worked : Each (HasWorked tree weak faults calls root p walkers n (remove threads 0) findings old new) back) where
     back_at : (k : ℕ) (t : Worker) → (e : get_elem? back k ≡ some t) → let w = worked k t e in ComesBack o root w.found.pieces.items p w.was t
@@ -150,7 +150,7 @@ module _ {S : Type 0} (tree : S → Option Told) (weak : S → List Path) (fault
     all_puts zero t e s at = puts_first o root [] p 0 caller last (firsts 0 caller own) called.back s (ap (λ (u : Worker). u.share) (some-injective last t e) ∙ at)
     all_puts (suc k) t e s at =
         let w = worked k t e in
-        puts_first o root w.found.pieces.items p (suc k) w.was t (firsts (suc k) w.was (behind_first threads k w.was w.is_was)) (back_at k t e) s at
+        puts_first o root w.found.pieces.items p (suc k) w.was t (firsts (suc k) w.was (past_first threads k w.was w.is_was)) (back_at k t e) s at
 
     -- the pieces that are left are of files of the tree
     pub all_pieces : (values : List IndexValue) → length values ≡ 3 → KeepsLocks (KeepsWork p.world) (last ∷ back) values → length findings ≡ length back → All (IsFilesPiece o root) (flat_map (λ f. f.pieces.items) findings)
@@ -161,7 +161,7 @@ module _ {S : Type 0} (tree : S → Option Told) (weak : S → List Path) (fault
         let same : w.found ≡ f = some-injective w.found f (sym w.is_found ∙ e) in
         let s = share_of (last ∷ back) keeps.shares keeps.each_share (suc k) there.0 there.1 in
         subst (λ (g : Findings). All (IsFilesPiece o root) g.pieces.items) same
-        (pieces_first o root w.found.pieces.items p (suc k) w.was there.0 (firsts (suc k) w.was (behind_first threads k w.was w.is_was)) (back_at k there.0 there.1) s.0 s.2
+        (pieces_first o root w.found.pieces.items p (suc k) w.was there.0 (firsts (suc k) w.was (past_first threads k w.was w.is_was)) (back_at k there.0 there.1) s.0 s.2
         (taken_fit p.world values keeps.shares keeps.kept (IsPieceItem o root) 2 (let low = three in omega arith)
         (λ j u at. let t = thread_of (last ∷ back) keeps.shares keeps.each_share j u at in all_puts j t.0 t.1 u t.2)
         (suc k) s.0 s.1)))

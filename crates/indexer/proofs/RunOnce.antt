@@ -8,7 +8,7 @@ use Rattle.std.proofs.lemmas.Option.{same_Some}
 use mathlib.Core.Option.{some, some-injective, some-ne-none}
 use lib.ListN.{get_elem?}
 use Rattle.bounded_buffer.specs.Plain.{part_of}
-use Rattle.firefly_outside.specs.Trees.{Path, Told, Calls}
+use Rattle.firefly_outside.specs.Trees.{Path, Contents, Calls}
 use Rattle.firefly_outside.specs.declared.tree.Kind.{Kind}
 use Rattle.nub_rule.specs.Items.{Each}
 use Rattle.nub.specs.Ended.{IsFirst, KeepsLocks}
@@ -48,7 +48,7 @@ none_lost (g ∷ fs) none (suc k) f at = none_lost fs (later g.lost (list_any (�
 still_of : (root : Path) (r : Share) → Grows root nothing blank r → IsStill root r
 still_of root r g = record { dirs = g.put; files = g.files_put; pieces = g.pieces_put; merges = g.pieces_taken }
 
--- behind the first n there is no tree
+-- after the first n there is no tree
 no_tree : {S : Type 0} (n : ℕ) (trees : List (Option S)) (k : ℕ) → n ≤ k → tree_at n trees k ≡ None
 no_tree n trees k high = by (nat_lt k n) refl
   where
@@ -59,7 +59,7 @@ no_tree n trees k high = by (nat_lt k n) refl
 tree_is : {S : Type 0} (n : ℕ) (trees : List (Option S)) (k : ℕ) → k < n → tree_at n trees k ≡ slice_index_or trees k None
 tree_is n trees k low = ap (λ b. cond b (slice_index_or trees k None) None) (lt-ltb k n low)
 
-module _ {S : Type 0} (tree : S → Option Told) (weak : S → List Path) (faults : S → ℕ) (calls : S → Calls) (root : Path) (p : Run) where
+module _ {S : Type 0} (tree : S → Option Contents) (weak : S → List Path) (faults : S → ℕ) (calls : S → Calls) (root : Path) (p : Run) where
   -- each worker's share says so
   gives_share : (kind : Kind) (a b : Worker) (f : Findings) (given got : Option S) → GivesTree tree weak faults calls root p kind a b f given got → OfShare b (HasShare p.world f)
   gives_share kind a b f None None h s at = (h.3 s at).has
@@ -68,23 +68,23 @@ module _ {S : Type 0} (tree : S → Option Told) (weak : S → List Path) (fault
   gives_share kind a b f (Some u) None h s at = absurd h
 
   -- what a worker that lost nothing listed and read
-  record Reads (f : Findings) (b : Worker) (t : Told) (given got : Option S) : Type 0 where
+  record Reads (f : Findings) (b : Worker) (t : Contents) (given got : Option S) : Type 0 where
     files : List Path
     left : OfShare b (IsLeft p.world files f)
     made : (s r : S) → given ≡ Some s → got ≡ Some r → ((calls r).files_read ≡ (calls s).files_read ++ files) × ((calls r).listed ≡ (calls s).listed ++ dirs_listed f.visits.items)
     none : given ≡ None → (files ≡ []) × (dirs_listed f.visits.items ≡ [])
 
-  gives_reads : (kind : Kind) (a b : Worker) (f : Findings) (t : Told) (given got : Option S) → f.lost ≡ false → ((s : S) → given ≡ Some s → tree s ≡ Some t) → GivesTree tree weak faults calls root p kind a b f given got
+  gives_reads : (kind : Kind) (a b : Worker) (f : Findings) (t : Contents) (given got : Option S) → f.lost ≡ false → ((s : S) → given ≡ Some s → tree s ≡ Some t) → GivesTree tree weak faults calls root p kind a b f given got
       → Reads f b t given got
   gives_reads kind a b f t None None kept tells h = record { files = []; left = h.3; made = λ s r e g. absurd (cc); none = λ e. (refl, ap dirs_listed h.1) }
   gives_reads kind a b f t (Some u) (Some v) kept tells h =
-      let told = subst (λ (o : Option Told). IfSome o (λ t. ((calls v).files_read ≡ (calls u).files_read ++ h.3.0) × (f.lost ≡ false → (calls v).listed ≡ (calls u).listed ++ dirs_listed f.visits.items))) (tells u refl) h.3.2 in
+      let reported = subst (λ (o : Option Contents). IfSome o (λ t. ((calls v).files_read ≡ (calls u).files_read ++ h.3.0) × (f.lost ≡ false → (calls v).listed ≡ (calls u).listed ++ dirs_listed f.visits.items))) (tells u refl) h.3.2 in
       record {
         files = h.3.0;
         left = h.3.1;
         made = λ s r e g.
             subst (λ (x : S). ((calls r).files_read ≡ (calls x).files_read ++ h.3.0) × ((calls r).listed ≡ (calls x).listed ++ dirs_listed f.visits.items)) (same_Some u s e)
-            (subst (λ (x : S). ((calls x).files_read ≡ (calls u).files_read ++ h.3.0) × ((calls x).listed ≡ (calls u).listed ++ dirs_listed f.visits.items)) (same_Some v r g) (told.0, told.1 kept));
+            (subst (λ (x : S). ((calls x).files_read ≡ (calls u).files_read ++ h.3.0) × ((calls x).listed ≡ (calls u).listed ++ dirs_listed f.visits.items)) (same_Some v r g) (reported.0, reported.1 kept));
         none = λ e. absurd (cc);
       }
   gives_reads kind a b f t None (Some v) kept tells h = absurd h
@@ -163,7 +163,7 @@ module _ {S : Type 0} (tree : S → Option Told) (weak : S → List Path) (fault
     pub all_found : AreFound p.world (visits_of findings) (pieces_of findings)
     all_found = pieces_found p.world values keeps.shares keeps.kept big findings came_by whose
 
-    module _ (t : Told) (tell : AllTell tree (Some t) old) (kept : list_any (λ f. f.lost) findings ≡ false) (merger : n < length findings) where
+    module _ (t : Contents) (tell : AllTell tree (Some t) old) (kept : list_any (λ f. f.lost) findings ≡ false) (merger : n < length findings) where
       reads_at : (k : ℕ) (f : Findings) (e : get_elem? findings k ≡ some f) → let w = at_place k f e in Reads f w.thread t (tree_at n old k) (tree_at n new k)
       reads_at k f e = let w = at_place k f e in
           gives_reads (kind_at walkers k) w.was w.thread f t (tree_at n old k) (tree_at n new k) (none_lost findings kept k f e) (λ s is. tell k s (tree_of n old k s is)) w.gives

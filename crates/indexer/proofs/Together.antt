@@ -53,7 +53,7 @@ dir_found all i f p at h = record { visit = h.visit; among = of_all (λ (g : Fin
 file_found : (all : List Findings) (i : ℕ) (f : Findings) (p : Path) → get_elem? all i ≡ some f → IsFoundFile f.visits.items p → IsFoundFile (visits_of all) p
 file_found all i f p at h = record { visit = h.visit; among = of_all (λ (g : Findings). g.visits.items) all i f h.visit at h.among; found = h.found }
 
--- the thread behind the place, which is the caller's at 0, came by this, and this is its share
+-- the thread after the place, which is the caller's at 0, came by this, and this is its share
 pub record IsCameBy (root : Path) (shares : List Share) (i : ℕ) (f : Findings) : Type 0 where
   pub share : Share
   pub at : get_elem? shares (suc i) ≡ some share
@@ -134,7 +134,7 @@ module _ (root : Path) (values : List IndexValue) (shares : List Share) (keeps :
       let c = each o.place o.one o.at in
       held_found (suc o.place) c.share (child root q) c.at (held_at o.place o.one h.piece q o.at o.is h.covers)
 
--- the thread behind the place came by something and read these files, and this is its share
+-- the thread after the place came by something and read these files, and this is its share
 pub record IsReadBy (root : Path) (shares : List Share) (all : List Findings) (i : ℕ) (files : List Path) : Type 0 where
   pub share : Share
   pub at : get_elem? shares (suc i) ≡ some share

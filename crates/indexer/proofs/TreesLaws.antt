@@ -7,7 +7,7 @@ use lib.ListN.{get_elem?}
 use Rattle.std.proofs.lemmas.Bool.{cases_eq, cases_lt, lt-ltb, ltb-true}
 use Rattle.std.proofs.lemmas.List.Elements.{Contains-append_right}
 use Rattle.std.proofs.lemmas.Option.{same_Some}
-use Rattle.firefly_outside.specs.Trees.{Path, Told, Calls}
+use Rattle.firefly_outside.specs.Trees.{Path, Contents, Calls}
 use Rattle.firefly_outside.specs.Causes.{Rose}
 use Rattle.firefly_outside.specs.Under.{IsUnder}
 use Rattle.firefly_outside.specs.declared.tree.Kind.{Kind}
@@ -23,7 +23,7 @@ use Rattle.index_findings.specs.declared.findings.Findings.{Findings}
 use Rattle.index_findings.specs.declared.findings.Visit.{Visit}
 use Rattle.index_findings.specs.Gathered.{first_fault, Ends}
 use Rattle.index_findings.specs.Faults.{path_of, kind_of}
-use Rattle.index_findings.proofs.ToldLaws.{told_on, told_both}
+use Rattle.index_findings.proofs.ReportedLaws.{reported_on, reported_both}
 use Rattle.index_rule.specs.declared.value.IndexValue.{IndexValue}
 use Rattle.indexer.specs.Jobs.{GivesTree, kind_at, tree_at}
 use Rattle.indexer.specs.Runs.{IsFoundBy}
@@ -59,7 +59,7 @@ risen_count a b (ReadFault path) h = h.0
 risen_count a b (TooMany many) h = omega (arith, h)
 risen_count a b Memory h = omega (arith, h)
 
-pub ends_count : (o : Option Told) (weak : List Path) (root : Path) (stop : Option ℕ) (fault : Option Fault) (a b : ℕ) (before now : Calls) (answer : WalkAnswer) → Ends o weak root stop fault a b before now answer → a ≤ b
+pub ends_count : (o : Option Contents) (weak : List Path) (root : Path) (stop : Option ℕ) (fault : Option Fault) (a b : ℕ) (before now : Calls) (answer : WalkAnswer) → Ends o weak root stop fault a b before now answer → a ≤ b
 ends_count o weak root stop None a b before now answer h = risen_count a b answer h.rises
 ends_count o weak root stop (Some fault) a b before now answer h = let e = h.count_stays in omega arith
 
@@ -70,7 +70,7 @@ not_fault : (piece : Index) (path : Path) → Done piece ≡ ReadFault path → 
 not_fault piece path e = cc
 
 -- the index is answered only where none failed
-pub done_none : (o : Option Told) (weak : List Path) (root : Path) (stop : Option ℕ) (fault : Option Fault) (a b : ℕ) (before now : Calls) (piece : Index) → Ends o weak root stop fault a b before now (Done piece)
+pub done_none : (o : Option Contents) (weak : List Path) (root : Path) (stop : Option ℕ) (fault : Option Fault) (a b : ℕ) (before now : Calls) (piece : Index) → Ends o weak root stop fault a b before now (Done piece)
     → (fault ≡ None) × (b ≡ a)
 done_none o weak root stop None a b before now piece h = (refl, h.rises)
 done_none o weak root stop (Some fault) a b before now piece h = absurd (⊎_elim (λ e. not_memory piece e) (λ e. not_fault piece (path_of fault) e.0) h.cases)
@@ -78,12 +78,12 @@ done_none o weak root stop (Some fault) a b before now piece h = absurd (⊎_eli
 tree_there : {S : Type 0} (n : ℕ) (trees : List (Option S)) (k : ℕ) → k < n → tree_at n trees k ≡ slice_index_or trees k None
 tree_there n trees k low = ap (λ b. cond b (slice_index_or trees k None) None) (lt-ltb k n low)
 
-abbrev Deciding : {S : Type 0} → (S → Option Told) → (S → List Path) → (S → ℕ) → (S → Calls) → Path → Option ℕ → Option Fault → WalkAnswer → Option S → Option S → Type 0
+abbrev Deciding : {S : Type 0} → (S → Option Contents) → (S → List Path) → (S → ℕ) → (S → Calls) → Path → Option ℕ → Option Fault → WalkAnswer → Option S → Option S → Type 0
 Deciding {S} tree weak faults calls root stop fault answer given got =
     (s : S) → given ≡ Some s → (r : S) × (got ≡ Some r) × (tree r ≡ tree s) × (weak r ≡ weak s) × Ends (tree s) (weak s) root stop fault (faults s) (faults r) (calls s) (calls r) answer
 
 -- calls of one kind alone
-only_calls : (kind : Kind) (weak : List Path) (before now : Calls) (visits : List Visit) (lost : Bool) (a b : Worker) (t : Told) → a.mine ≡ [] → CalledOnly kind weak before now visits None lost 0 a b t → OnlyCalls kind before now b
+only_calls : (kind : Kind) (weak : List Path) (before now : Calls) (visits : List Visit) (lost : Bool) (a b : Worker) (t : Contents) → a.mine ≡ [] → CalledOnly kind weak before now visits None lost 0 a b t → OnlyCalls kind before now b
 only_calls Dir weak before now visits lost a b t nothing l = record {
   dirs = l.paths;
   listed = ap (λ (c : Calls). c.listed) l.made;
@@ -99,7 +99,7 @@ only_calls File weak before now visits lost a b t nothing l = record {
   times = let was = l.times in let zero_at = ap (release_count 1) nothing in omega arith;
 }
 
-module _ {S : Type 0} (tree : S → Option Told) (weak : S → List Path) (faults : S → ℕ) (calls : S → Calls) (root : Path) where
+module _ {S : Type 0} (tree : S → Option Contents) (weak : S → List Path) (faults : S → ℕ) (calls : S → Calls) (root : Path) where
   -- what came back for the tree that was handed out
   record Came (p : Run) (kind : Kind) (a b : Worker) (f : Findings) (s : S) (got : Option S) : Type 0 where
     r : S
@@ -196,7 +196,7 @@ module _ {S : Type 0} (tree : S → Option Told) (weak : S → List Path) (fault
       others = λ i d low. others i d (λ same. omega arith) ∙ above i d (omega arith);
     }
 
-    -- and so they are where memory wanted behind the run
+    -- and so they are where memory wanted after the run
     are_left : (answer : WalkAnswer) (own : S) → slice_index_or old n None ≡ Some own → Deciding tree weak faults calls root stop fault answer (slice_index_or mid n None) (slice_index_or new n None) → AreLeft tree weak faults calls n old new
     are_left answer own is_own ends =
         let was = left_found walkers n threads findings old mid many found above in
@@ -230,8 +230,8 @@ module _ {S : Type 0} (tree : S → Option Told) (weak : S → List Path) (fault
                 none_rose = done.counts;
                 thread = w.last;
                 is_thread = w.is_last;
-                calls_only = told_on (tree s) (CalledOnly (kind_at walkers k) (weak s) (calls s) (calls c.r) w.f.visits.items None w.f.lost 0 w.first w.last) (λ t. OnlyCalls (kind_at walkers k) (calls s) (calls c.r) w.last)
-                    (λ t l. only_calls (kind_at walkers k) (weak s) (calls s) (calls c.r) w.f.visits.items w.f.lost w.first w.last t w.nothing l) done.told;
+                calls_only = reported_on (tree s) (CalledOnly (kind_at walkers k) (weak s) (calls s) (calls c.r) w.f.visits.items None w.f.lost 0 w.first w.last) (λ t. OnlyCalls (kind_at walkers k) (calls s) (calls c.r) w.last)
+                    (λ t l. only_calls (kind_at walkers k) (weak s) (calls s) (calls c.r) w.f.visits.items w.f.lost w.first w.last t w.nothing l) done.reported;
               });
           closing = λ s r e is.
               let h = ends s (above n None (omega arith) ∙ e) in
@@ -277,11 +277,11 @@ no_memory q e = cc
 same_fault : (q u : Path) → ReadFault q ≡ ReadFault u → q ≡ u
 same_fault q u e = cc
 
-module _ {S : Type 0} (tree : S → Option Told) (weak : S → List Path) (faults : S → ℕ) (calls : S → Calls) (root : Path) where
+module _ {S : Type 0} (tree : S → Option Contents) (weak : S → List Path) (faults : S → ℕ) (calls : S → Calls) (root : Path) where
   -- a worker's tree failed so
   record Failed (s r : S) (fault : Fault) : Type 0 where
     rose : Rose (faults s) (faults r)
-    told : IfSome (tree s) (λ t. MayFail (weak s) t fault × FailsSince (calls s) (calls r) (path_of fault))
+    reported : IfSome (tree s) (λ t. MayFail (weak s) t fault × FailsSince (calls s) (calls r) (path_of fault))
 
   failed_at : (p : Run) (kind : Kind) (a b : Worker) (f : Findings) (given got : Option S) (fault : Fault) → f.fault ≡ Some fault → GivesTree tree weak faults calls root p kind a b f given got
       → (s : S) × (r : S) × (given ≡ Some s) × (got ≡ Some r) × Failed s r fault
@@ -295,13 +295,13 @@ module _ {S : Type 0} (tree : S → Option Told) (weak : S → List Path) (fault
     refl,
     record {
       rose = fault_rose (faults s) (faults r) fault f.fault is h.2.counts;
-      told = told_on (tree s) (CalledOnly kind (weak s) (calls s) (calls r) f.visits.items f.fault f.lost 0 a b) (λ t. MayFail (weak s) t fault × FailsSince (calls s) (calls r) (path_of fault))
+      reported = reported_on (tree s) (CalledOnly kind (weak s) (calls s) (calls r) f.visits.items f.fault f.lost 0 a b) (λ t. MayFail (weak s) t fault × FailsSince (calls s) (calls r) (path_of fault))
           (λ t l. let k = subst (λ (o : Option Fault). CalledOnly kind (weak s) (calls s) (calls r) f.visits.items o f.lost 0 a b t) is l in
-          (k.may, failed_since kind k.paths (path_of fault) (calls s) (calls r) k.made)) h.2.told;
+          (k.may, failed_since kind k.paths (path_of fault) (calls s) (calls r) k.made)) h.2.reported;
     },
   )
 
-  module _ (walkers n : ℕ) (threads : List Worker) (findings : List Findings) (old mid new : List (Option S)) (o : Option Told) (stop : Option ℕ) (tell : AllTell tree o old)
+  module _ (walkers n : ℕ) (threads : List Worker) (findings : List Findings) (old mid new : List (Option S)) (o : Option Contents) (stop : Option ℕ) (tell : AllTell tree o old)
       (found : Each (IsFoundBy tree weak faults calls root walkers n threads old mid) findings) (own : S) (is_own : slice_index_or old n None ≡ Some own)
       (above : (i : ℕ) (d : Option S) → n ≤ i → slice_index_or mid i d ≡ slice_index_or old i d)
       (others : (i : ℕ) (d : Option S) → (i ≡ n → ⊥) → slice_index_or new i d ≡ slice_index_or mid i d) where
@@ -312,7 +312,7 @@ module _ {S : Type 0} (tree : S → Option Told) (weak : S → List Path) (fault
         let f = failed_at w.run (kind_at walkers k.0) w.first w.last k.1 (tree_at n old k.0) (tree_at n mid k.0) fault k.3 w.gives in
         let low : k.0 < n = ltb-true k.0 n (low_by (nat_lt k.0 n) (slice_index_or old k.0 None) f.0 f.2) in
         let was = sym (tree_there n old k.0 low) ∙ f.2 in
-        let under_here = subst (λ (q : Option Told). IfSome q (λ t. IsUnder t root (kind_of fault) (path_of fault))) (tell n own is_own ∙ sym (tell k.0 f.0 was)) under in
+        let under_here = subst (λ (q : Option Contents). IfSome q (λ t. IsUnder t root (kind_of fault) (path_of fault))) (tell n own is_own ∙ sym (tell k.0 f.0 was)) under in
         record {
           place = k.0;
           s = f.0;
@@ -320,9 +320,9 @@ module _ {S : Type 0} (tree : S → Option Told) (weak : S → List Path) (fault
           r = f.1;
           is = others k.0 None (λ z. omega arith) ∙ (sym (tree_there n mid k.0 low) ∙ f.3);
           rose = f.4.rose;
-          told = told_both (tree f.0) (λ t. MayFail (weak f.0) t fault × FailsSince (calls f.0) (calls f.1) (path_of fault)) (λ t. IsUnder t root (kind_of fault) (path_of fault))
+          reported = reported_both (tree f.0) (λ t. MayFail (weak f.0) t fault × FailsSince (calls f.0) (calls f.1) (path_of fault)) (λ t. IsUnder t root (kind_of fault) (path_of fault))
               (λ t. IsFaultUnder t root (weak f.0) (path_of fault) × FailsSince (calls f.0) (calls f.1) (path_of fault))
-              (λ t m u. (record { kind = kind_of fault; under = u; may = m.0 }, m.1)) f.4.told under_here;
+              (λ t m u. (record { kind = kind_of fault; under = u; may = m.0 }, m.1)) f.4.reported under_here;
         }
 
     -- a path that is answered was made to fail by a worker or by the closing walk
@@ -337,7 +337,7 @@ module _ {S : Type 0} (tree : S → Option Told) (weak : S → List Path) (fault
           r = h.0;
           is = h.1;
           rose = h.4.rises.1;
-          told = told_both (tree own) (λ t. IsFaultUnder t root (weak own) path) (λ t. (calls h.0).failed ≡ (calls own).failed ++ path ∷ []) (λ t. IsFaultUnder t root (weak own) path × FailsSince (calls own) (calls h.0) path)
+          reported = reported_both (tree own) (λ t. IsFaultUnder t root (weak own) path) (λ t. (calls h.0).failed ≡ (calls own).failed ++ path ∷ []) (λ t. IsFaultUnder t root (weak own) path × FailsSince (calls own) (calls h.0) path)
               (λ t f e. (f, fails_since path (calls own) (calls h.0) e)) h.4.answers h.4.failed;
         }
     caused (Some fault) path is_fault ends =
@@ -349,7 +349,7 @@ module _ {S : Type 0} (tree : S → Option Told) (weak : S → List Path) (fault
         h.4.cases
 
 -- of whatever the closing walk answered
-module _ {S : Type 0} (tree : S → Option Told) (weak : S → List Path) (faults : S → ℕ) (calls : S → Calls) (root : Path) (walkers n : ℕ) (closed : Ended IndexValue Share Path) (findings : List Findings)
+module _ {S : Type 0} (tree : S → Option Contents) (weak : S → List Path) (faults : S → ℕ) (calls : S → Calls) (root : Path) (walkers n : ℕ) (closed : Ended IndexValue Share Path) (findings : List Findings)
     (old mid new : List (Option S)) (stop : Option ℕ) (fault : Option Fault) (is_fault : fault ≡ first_fault findings) (found : Each (IsFoundBy tree weak faults calls root walkers n closed.threads old mid) findings)
     (own : S) (is_own : slice_index_or old n None ≡ Some own) (above : (i : ℕ) (d : Option S) → n ≤ i → slice_index_or mid i d ≡ slice_index_or old i d)
     (others : (i : ℕ) (d : Option S) → (i ≡ n → ⊥) → slice_index_or new i d ≡ slice_index_or mid i d) where
@@ -366,7 +366,7 @@ module _ {S : Type 0} (tree : S → Option Told) (weak : S → List Path) (fault
   trees_after many (TooMany m) ends = back many (TooMany m) ends
   trees_after many Memory ends = are_left tree weak faults calls root walkers n closed.threads findings old mid new stop fault many found above others Memory own is_own ends
 
-  pub has_cause : (o : Option Told) → AllTell tree o old → (answer : WalkAnswer) → Decides answer → HasCause tree weak faults calls root old new (answer_of answer closed)
+  pub has_cause : (o : Option Contents) → AllTell tree o old → (answer : WalkAnswer) → Decides answer → HasCause tree weak faults calls root old new (answer_of answer closed)
   has_cause o tell (Done piece) ends = tt
   has_cause o tell (Stopped m) ends = tt
   has_cause o tell (ReadFault path) ends = caused tree weak faults calls root walkers n closed.threads findings old mid new o stop tell found own is_own above others fault path is_fault ends

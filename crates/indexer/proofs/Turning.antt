@@ -13,7 +13,7 @@ use Rattle.bounded_buffer.specs.Calls.{did_last, put_did, take_did}
 use Rattle.bounded_buffer.specs.declared.did.Did.TheVariants.{Shut}
 use Rattle.bounded_buffer.specs.Parts.{Used, did, more_full, more_empty}
 use Rattle.bounded_buffer.specs.Plain.{part_of}
-use Rattle.firefly_outside.specs.Trees.{Path, Told}
+use Rattle.firefly_outside.specs.Trees.{Path, Contents}
 use Rattle.larch_actions.specs.declared.event.Event.{Event}
 use Rattle.nub_rule.specs.Known.{Holds}
 use Rattle.nub_rule.specs.Plays.{release_event}
@@ -31,11 +31,11 @@ use Rattle.indexer.specs.Pieces.{IsPieceItem}
 use Rattle.std.proofs.lemmas.Option.{same_Some}
 use Rattle.index_rule.specs.Counting.{contains_nil, distinct_nil}
 use Rattle.index_rule.specs.Shares.{Share, IsChildOfTook}
-use Rattle.index_rule.specs.Work.{IsBehind, IsNewTo, MayChange, waiting_of}
+use Rattle.index_rule.specs.Work.{IsAfter, IsNewTo, MayChange, waiting_of}
 use Rattle.indexer.specs.Turns.{Worker, Run, releases, release_count, Passes, ComesBack, HasCalled, HasList, IsAs, IsBetween}
 
 -- the list may be given back as it was got
-pub dirs_stay : (root : Path) (x : IndexValue) (e : DirsInWork) (s : Share) → IsBehind 0 x → IsAs x e → MayChange root 0 x (Dirs e) s s
+pub dirs_stay : (root : Path) (x : IndexValue) (e : DirsInWork) (s : Share) → IsAfter 0 x → IsAs x e → MayChange root 0 x (Dirs e) s s
 dirs_stay root (Dirs d) e s h same = record {
   kind = refl;
   moves = (
@@ -89,7 +89,7 @@ taken_pieces (Ok (n, FileItem f)) = []
 taken_pieces (Ok (n, PieceItem x)) = x ∷ []
 taken_pieces (Err e) = []
 
-module _ (o : Option Told) (root : Path) where
+module _ (o : Option Contents) (root : Path) where
   -- a share that has the same at the buffer of pieces
   pub passes_same : (s r : Share) → part_of r.notes 2 ≡ part_of s.notes 2 → Passes o root [] s r
   passes_same s r e = record {
@@ -213,7 +213,7 @@ module _ (o : Option Told) (root : Path) where
 
 -- who waited with the list has it again
 pub has_again : (p : Run) (a b c : Worker) (x y : IndexValue) (es : List Event) (e : Event) (has : HasList p a x b) → AtRest p c → IsSame b c → Holds c 0 y → c.held ≡ slice_set b.held 0 (Some y)
-    → c.share ≡ b.share → Adds es e b c → IsBehind 0 y → IsNewTo p.world 0 has.own y → HasList p a y c
+    → c.share ≡ b.share → Adds es e b c → IsAfter 0 y → IsNewTo p.world 0 has.own y → HasList p a y c
 has_again p a b c x y es e has rest same holds held share adds kind new = record {
   rest = rest;
   same = record { number = same.number ∙ has.same.number; world = same.world ∙ has.same.world };

@@ -1,6 +1,6 @@
 -- What a call adds to the share of its thread.
 use Rattle.std.specs.Prelude.{◌≡◌, ℕ, ◌+◌, List, [], ◌++◌, Option, Some, None, Contains, All}
-use Rattle.firefly_outside.specs.Trees.{Path, Told}
+use Rattle.firefly_outside.specs.Trees.{Path, Contents}
 use Rattle.word_index.specs.Index.{Index}
 use Rattle.index_rule.specs.Distinct.{AreDisjoint, AreDistinct}
 use Rattle.index_rule.specs.Shares.{Share, IsChildOfTook, paths_put, paths_taken, covered}
@@ -34,7 +34,7 @@ Gets p more a b = (s : Share) → a.share ≡ Some s → (r : Share) × (b.share
 
 -- the thread made a call, by which its share grew by this
 pub record Makes (p : Run) (more : More) (a b : Worker) : Type 0 where
-  pub called : (o : Option Told) (root : Path) (m : ℕ) → HasCalled o root [] p m 0 a b
+  pub called : (o : Option Contents) (root : Path) (m : ℕ) → HasCalled o root [] p m 0 a b
   pub gets : Gets p more a b
 
 -- the thread counted this many more files

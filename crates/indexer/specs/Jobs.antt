@@ -2,7 +2,7 @@
 use Rattle.std.specs.Prelude.{◌≡◌, ℕ, ◌≤◌, ◌<◌, true, false, List, [], ◌∷◌, ◌++◌, length, map, remove, Option, Some, None, IfSome, cond, nat_lt, slice_index_or}
 use mathlib.Core.Option.{some}
 use lib.ListN.{get_elem?}
-use Rattle.firefly_outside.specs.Trees.{Path, Told, Calls}
+use Rattle.firefly_outside.specs.Trees.{Path, Contents, Calls}
 use Rattle.firefly_outside.specs.declared.tree.Kind.{Kind}
 use Rattle.firefly_outside.specs.declared.tree.Kind.TheVariants.{File, Dir}
 use Rattle.bounded_buffer.specs.Plain.{part_of}
@@ -39,12 +39,12 @@ pub record AreJobs {S : Type 0} (walkers n : ℕ) (threads : List Worker) (old n
   pub others : (i : ℕ) (d : Option S) → n ≤ i → slice_index_or new i d ≡ slice_index_or old i d
   pub left : (i : ℕ) (r : S) → slice_index_or new i None ≡ Some r → slice_index_or old i None ≡ Some r
 
-module _ {S : Type 0} (tree : S → Option Told) (weak : S → List Path) (faults : S → ℕ) (calls : S → Calls) (root : Path) where
+module _ {S : Type 0} (tree : S → Option Contents) (weak : S → List Path) (faults : S → ℕ) (calls : S → Calls) (root : Path) where
   -- the worker went from a to b with these findings, as its share says: the tree that it got came
   -- back, with calls of its kind; without a tree it took and merged pieces, and saw the end of
   -- their buffer unless it lost a piece
   abbrev pub GivesTree : Run → Kind → Worker → Worker → Findings → Option S → Option S → Type 0
-  GivesTree p kind a b f None None = ((o : Option Told) → HasCalled o root f.pieces.items p 0 0 a b) × (f.visits.items ≡ [])
+  GivesTree p kind a b f None None = ((o : Option Contents) → HasCalled o root f.pieces.items p 0 0 a b) × (f.visits.items ≡ [])
       × (f.fault ≡ None)
       × OfShare b (IsLeft p.world [] f) × (f.lost ≡ false → OfShare b (λ u. (part_of u.notes 2).seen_end ≡ true))
   GivesTree p kind a b f (Some s) (Some r) = (tree r ≡ tree s) × (weak r ≡ weak s)

@@ -4,7 +4,7 @@ use Rattle.std.specs.List.{flat_map}
 use Rattle.std.proofs.Common.{suc}
 use mathlib.Core.Option.{some}
 use lib.ListN.{get_elem?}
-use Rattle.firefly_outside.specs.Trees.{Path, Told, Calls}
+use Rattle.firefly_outside.specs.Trees.{Path, Contents, Calls}
 use Rattle.firefly_outside.specs.Under.{IsUnder}
 use Rattle.firefly_outside.specs.declared.tree.Kind.TheVariants.{File, Dir}
 use Rattle.word_index.specs.Index.{Index}
@@ -28,7 +28,7 @@ module _ {S : Type 0} (calls : S → Calls) where
 
   -- over these trees together the directories under the root were listed since, each once, and the
   -- files under it were read, each once
-  pub record IsEachOnce (t : Told) (root : Path) (n : ℕ) (old new : List (Option S)) : Type 0 where
+  pub record IsEachOnce (t : Contents) (root : Path) (n : ℕ) (old new : List (Option S)) : Type 0 where
     pub listed : List (List Path)
     pub listed_since : AreSince (λ c. c.listed) n old new listed
     pub listed_once : AllPairs (λ p q. p ≢ q) (joined listed)
@@ -56,7 +56,7 @@ module _ {S : Type 0} (calls : S → Calls) where
 
   -- if there is an index and the trees' contents are known, each directory was listed once and each
   -- file read once
-  abbrev pub EachOnce : Option Told → Path → ℕ → List (Option S) → List (Option S) → IndexAnswer → Type 0
+  abbrev pub EachOnce : Option Contents → Path → ℕ → List (Option S) → List (Option S) → IndexAnswer → Type 0
   EachOnce o root n old new (Done piece closed) = IfSome o (λ t. IsEachOnce t root n old new)
   EachOnce o root n old new (Stopped many) = Unit {0}
   EachOnce o root n old new (ReadFault path) = Unit {0}

@@ -4,7 +4,7 @@ use Rattle.std.specs.List.{flat_map, list_any}
 use Rattle.std.proofs.Common.{suc}
 use mathlib.Core.Option.{some}
 use lib.ListN.{get_elem?}
-use Rattle.firefly_outside.specs.Trees.{Path, Told, Calls}
+use Rattle.firefly_outside.specs.Trees.{Path, Contents, Calls}
 use Rattle.larch_actions.specs.declared.event.Event.{Event}
 use Rattle.nub.specs.Ended.{Ended, IsWhole}
 use Rattle.nub_rule.specs.Items.{Each}
@@ -21,7 +21,7 @@ use Rattle.indexer.specs.Says.{AllTell}
 use Rattle.indexer.specs.Turns.{Worker, Run}
 use Rattle.index_rule.specs.Shares.{Share}
 
-module _ {S : Type 0} (tree : S → Option Told) (weak : S → List Path) (faults : S → ℕ) (calls : S → Calls) (root : Path) where
+module _ {S : Type 0} (tree : S → Option Contents) (weak : S → List Path) (faults : S → ℕ) (calls : S → Calls) (root : Path) where
   -- the worker k, which is thread k + 1 and had done nothing before, found this, and its tree came
   -- back
   pub record IsFoundBy (walkers n : ℕ) (threads : List Worker) (old new : List (Option S)) (k : ℕ) (found : Findings) : Type 0 where
@@ -41,11 +41,11 @@ module _ {S : Type 0} (tree : S → Option Told) (weak : S → List Path) (fault
       pub traced : plan.traced ≡ true → (h : List Event) × (closed.trace ≡ Some h) × IsWhole (layout_of plan) closed.threads h
       pub count : length findings + 1 ≡ (layout_of plan).threads
       pub found : Each (IsFoundBy plan.walkers (plan.walkers + plan.parsers) closed.threads old new) findings
-      pub pieces : (o : Option Told) → AllTell tree o old → All (IsFilesPiece o root) (flat_map (λ f. f.pieces.items) findings)
+      pub pieces : (o : Option Contents) → AllTell tree o old → All (IsFilesPiece o root) (flat_map (λ f. f.pieces.items) findings)
       pub visits : AreVisits root (flat_map (λ f. f.visits.items) findings)
       pub apart : AreApart (flat_map (λ f. f.pieces.items) findings)
       pub covered : AreFound root (flat_map (λ f. f.visits.items) findings) (flat_map (λ f. f.pieces.items) findings)
-      pub once : (t : Told) → AllTell tree (Some t) old → list_any (λ f. f.lost) findings ≡ false
+      pub once : (t : Contents) → AllTell tree (Some t) old → list_any (λ f. f.lost) findings ≡ false
           → IsWorkedOnce calls root (plan.walkers + plan.parsers) old new (flat_map (λ f. f.visits.items) findings)
           (flat_map (λ f. f.pieces.items) findings)
       pub others : (i : ℕ) (d : Option S) → plan.walkers + plan.parsers ≤ i → slice_index_or new i d ≡ slice_index_or old i d

@@ -5,7 +5,7 @@ use mathlib.Core.Option.{some}
 use lib.ListN.{get_elem?}
 use Rattle.larch_actions.specs.declared.event.Event.{Event}
 use Rattle.firefly_outside.specs.Causes.{Rose}
-use Rattle.firefly_outside.specs.Trees.{Path, Told, Calls}
+use Rattle.firefly_outside.specs.Trees.{Path, Contents, Calls}
 use Rattle.firefly_outside.specs.Under.{IsUnder, AreMany}
 use Rattle.firefly_outside.specs.declared.tree.Kind.{Kind}
 use Rattle.firefly_outside.specs.declared.tree.Kind.TheVariants.{File, Dir}
@@ -23,7 +23,7 @@ use Rattle.indexer.specs.Turns.{Worker, release_count}
 use Rattle.index_rule.specs.Shares.{Share}
 
 -- all trees have the contents o, or those of none are known
-abbrev pub AllTell : {S : Type 0} → (S → Option Told) → Option Told → List (Option S) → Type 0
+abbrev pub AllTell : {S : Type 0} → (S → Option Contents) → Option Contents → List (Option S) → Type 0
 AllTell {S} tree o trees = (k : ℕ) (s : S) → slice_index_or trees k None ≡ Some s → tree s ≡ o
 
 -- one more than are allowed
@@ -31,7 +31,7 @@ abbrev pub IsStop : Option ℕ → ℕ → Type 0
 IsStop stop many = (n : ℕ) × (stop ≡ Some n) × (many ≡ n + 1)
 
 -- what an answer says of a tree whose contents are known
-abbrev pub WalkSays : Option Told → Path → Option ℕ → WalkAnswer → Type 0
+abbrev pub WalkSays : Option Contents → Path → Option ℕ → WalkAnswer → Type 0
 WalkSays o root stop (Done piece) = IfSome o (λ t. IsWhole t root stop piece)
 WalkSays o root stop (Stopped many) = IsStop stop many × IfSome o (λ t. AreMany t root File many)
 WalkSays o root stop (ReadFault path) = IfSome o (λ t. (kind : Kind) × IsUnder t root kind path)
@@ -53,7 +53,7 @@ answer_of (TooMany many) closed = IndexTooMany many
 answer_of Memory closed = IndexMemory
 
 -- the same for a run, and what Done says of its package
-abbrev pub IndexSays : Option Told → Path → Plan → IndexAnswer → Type 0
+abbrev pub IndexSays : Option Contents → Path → Plan → IndexAnswer → Type 0
 IndexSays o root plan (IndexDone piece closed) = WalkSays o root plan.stop_after (Done piece) × IsRunOf plan closed
 IndexSays o root plan (IndexStopped many) = WalkSays o root plan.stop_after (Stopped many)
 IndexSays o root plan (IndexReadFault path) = WalkSays o root plan.stop_after (ReadFault path)
@@ -87,7 +87,7 @@ pub record FailsSince (before now : Calls) (path : Path) : Type 0 where
   pub failed : now.failed ≡ before.failed ++ more
   pub among : Contains more path
 
-module _ {S : Type 0} (tree : S → Option Told) (weak : S → List Path) (faults : S → ℕ) (calls : S → Calls) where
+module _ {S : Type 0} (tree : S → Option Contents) (weak : S → List Path) (faults : S → ℕ) (calls : S → Calls) where
   -- the tree came back as it was, and its count didn't fall
   pub record IsBack (s r : S) : Type 0 where
     pub same_tree : tree r ≡ tree s
@@ -132,7 +132,7 @@ module _ {S : Type 0} (tree : S → Option Told) (weak : S → List Path) (fault
     pub r : S
     pub is : slice_index_or new place None ≡ Some r
     pub rose : Rose (faults s) (faults r)
-    pub told : IfSome (tree s) (λ t. IsFaultUnder t root (weak s) path × FailsSince (calls s) (calls r) path)
+    pub reported : IfSome (tree s) (λ t. IsFaultUnder t root (weak s) path × FailsSince (calls s) (calls r) path)
 
   abbrev pub HasCause : Path → List (Option S) → List (Option S) → IndexAnswer → Type 0
   HasCause root old new (IndexDone piece closed) = Unit {0}

@@ -1,6 +1,6 @@
 -- A worker between its calls, and while it holds the list of directories.
 use Rattle.std.specs.Prelude.{◌≡◌, ℕ, ◌+◌, ◌≤◌, Bool, false, eqb, List, [], ◌∷◌, ◌++◌, count_by, slice_set, Option, Some, All}
-use Rattle.firefly_outside.specs.Trees.{Path, Told}
+use Rattle.firefly_outside.specs.Trees.{Path, Contents}
 use Rattle.larch_actions.specs.declared.event.Event.{Event}
 use Rattle.larch_actions.specs.declared.event.Layout.{Layout}
 use Rattle.larch_actions.specs.declared.event.Action.{Action}
@@ -15,7 +15,7 @@ use Rattle.index_rule.specs.declared.value.DirsInWork.{DirsInWork}
 use Rattle.index_rule.specs.declared.value.IndexValue.{IndexValue}
 use Rattle.indexer.specs.Pieces.{IsPieceItem, AllPut, AllTaken}
 use Rattle.index_rule.specs.Shares.{Share, blank}
-use Rattle.index_rule.specs.Work.{IsBehind, IsNewTo, dirs_of, files_of, waiting_of}
+use Rattle.index_rule.specs.Work.{IsAfter, IsNewTo, dirs_of, files_of, waiting_of}
 
 abbrev pub Worker : Type 0
 Worker = Known IndexValue Share Path
@@ -39,17 +39,17 @@ pub record HasLists (l : Layout) : Type 0 where
 -- a share goes from s to r: if its thread had put only pieces of the tree at the buffer of pieces,
 -- this still holds; and if it has taken only such pieces there, this held before too, and these
 -- pieces are among them
-pub record Passes (tree : Option Told) (root : Path) (pieces : List Index) (s r : Share) : Type 0 where
+pub record Passes (tree : Option Contents) (root : Path) (pieces : List Index) (s r : Share) : Type 0 where
   pub puts : AllPut (IsPieceItem tree root) 2 s → AllPut (IsPieceItem tree root) 2 r
   pub takes : AllTaken (IsPieceItem tree root) 2 r → AllTaken (IsPieceItem tree root) 2 s × All (IsFilesPiece tree root) pieces
 
 -- a thread that was between two calls is so again
-abbrev pub ComesBack : Option Told → Path → List Index → Run → Worker → Worker → Type 0
+abbrev pub ComesBack : Option Contents → Path → List Index → Run → Worker → Worker → Type 0
 ComesBack tree root pieces p a b = (n : ℕ) (s : Share) → IsIdle p n s a → (r : Share) × IsIdle p n r b × Passes tree root pieces s r
 
 -- the worker is between two calls again, has these pieces, and has released the mutex m at least k
 -- more times
-pub record HasCalled (tree : Option Told) (root : Path) (pieces : List Index) (p : Run) (m k : ℕ) (a b : Worker) : Type 0 where
+pub record HasCalled (tree : Option Contents) (root : Path) (pieces : List Index) (p : Run) (m k : ℕ) (a b : Worker) : Type 0 where
   pub back : ComesBack tree root pieces p a b
   pub times : k + release_count m a.mine ≤ release_count m b.mine
 
@@ -64,7 +64,7 @@ pub record HasList (p : Run) (a : Worker) (x : IndexValue) (b : Worker) : Type 0
   pub own : Share
   pub was : a.share ≡ Some own
   pub share : b.share ≡ Some own
-  pub kind : IsBehind 0 x
+  pub kind : IsAfter 0 x
   pub new : IsNewTo p.world 0 own x
   pub times : (m : ℕ) → release_count m a.mine ≤ release_count m b.mine
 

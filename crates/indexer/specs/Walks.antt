@@ -1,11 +1,11 @@
 -- The calls that a worker with a tree has made.
 use Rattle.std.specs.Prelude.{◌≡◌, ◌⊎◌, ℕ, ◌+◌, ◌≤◌, Bool, true, false, List, [], ◌∷◌, ◌++◌, length, map, Option, Some, None, IfSome, Contains, All, Result, Ok, Err}
 use Rattle.firefly_outside.specs.Causes.{Rose}
-use Rattle.firefly_outside.specs.Trees.{Path, Told, Calls}
+use Rattle.firefly_outside.specs.Trees.{Path, Contents, Calls}
 use Rattle.firefly_outside.specs.Under.{IsThere}
 use Rattle.firefly_outside.specs.declared.tree.Kind.{Kind}
 use Rattle.firefly_outside.specs.declared.tree.Kind.TheVariants.{File, Dir}
-use Rattle.walker.specs.Listings.{IsListingOf, IsToldBy}
+use Rattle.walker.specs.Listings.{IsListingOf, IsReportedBy}
 use Rattle.word_index.specs.Index.{Index}
 use Rattle.index_findings.specs.declared.findings.Fault.{Fault}
 use Rattle.index_findings.specs.declared.findings.Visit.{Visit}
@@ -15,9 +15,9 @@ use Rattle.indexer.specs.declared.work_end.WorkEnd.TheVariants.{Over, Lost, Fail
 use Rattle.indexer.specs.Turns.{Worker, Run, ComesBack, release_count}
 
 -- the listing is one of its directory, and the tree's own if the tree's contents are known
-pub record IsVisit (tree : Option Told) (v : Visit) : Type 0 where
+pub record IsVisit (tree : Option Contents) (v : Visit) : Type 0 where
   pub lawful : IsListingOf v.dir v.listing
-  pub told : IfSome tree (λ t. IsToldBy t v.dir v.listing)
+  pub reported : IfSome tree (λ t. IsReportedBy t v.dir v.listing)
 
 -- the count rose if a path failed, and stays otherwise
 abbrev pub FaultCounts : ℕ → ℕ → Option Fault → Type 0
@@ -25,7 +25,7 @@ FaultCounts before now None = now ≡ before
 FaultCounts before now (Some fault) = (before ≤ now) × Rose before now
 
 -- the path may fail, or is in the tree, if at all, as something of another kind
-abbrev pub MayFail : List Path → Told → Fault → Type 0
+abbrev pub MayFail : List Path → Contents → Fault → Type 0
 MayFail weak t fault = Contains weak (path_of fault) ⊎ ¬ IsThere t (kind_of fault) (path_of fault)
 
 abbrev pub paths_of : Option Fault → List Path
@@ -51,7 +51,7 @@ HasKept File paths visits = Unit {0}
 -- anything did; the mutex was released before each of them, and `spare` more times; and if nothing
 -- was lost, each listing was kept
 pub record CalledOnly (kind : Kind) (weak : List Path) (before now : Calls) (visits : List Visit) (fault : Option Fault) (lost : Bool)
-    (spare : ℕ) (a b : Worker) (t : Told) : Type 0 where
+    (spare : ℕ) (a b : Worker) (t : Contents) : Type 0 where
   pub paths : List Path
   pub kept : lost ≡ false → HasKept kind paths visits
   pub made : now ≡ calls_with kind paths (paths_of fault) before
@@ -60,13 +60,13 @@ pub record CalledOnly (kind : Kind) (weak : List Path) (before now : Calls) (vis
 
 -- the worker went from a to b by calls of one kind on its tree, and has these listings and pieces;
 -- this failed, if anything did, and something may be lost
-pub record HasDone (kind : Kind) (tree : Option Told) (root : Path) (weak : List Path) (count then_count : ℕ) (before now : Calls) (p : Run)
+pub record HasDone (kind : Kind) (tree : Option Contents) (root : Path) (weak : List Path) (count then_count : ℕ) (before now : Calls) (p : Run)
     (spare : ℕ) (a b : Worker)
     (visits : List Visit) (pieces : List Index) (fault : Option Fault) (lost : Bool) : Type 0 where
   pub back : ComesBack tree root pieces p a b
   pub each : All (IsVisit tree) visits
   pub counts : FaultCounts count then_count fault
-  pub told : IfSome tree (CalledOnly kind weak before now visits fault lost spare a b)
+  pub reported : IfSome tree (CalledOnly kind weak before now visits fault lost spare a b)
 
 -- what failed, if anything did
 abbrev pub fault_in : WorkEnd → Option Fault

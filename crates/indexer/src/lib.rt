@@ -28,4 +28,4 @@ pub use index_rule::{
 };
 pub use package_crew::{BeforeStart, BeginsAtOnce};
 pub use plan::{Plan, index_layout};
-pub use run::indexing::{index, index_with};
+pub use run::entry::{index, index_with};

@@ -1,8 +1,8 @@
 //! A run: what it opens, its crew, and what it hands on at its end.
 
 pub mod crew;
-pub mod ending;
-pub mod handing;
-pub mod indexing;
+pub mod early_end;
+pub mod entry;
 pub mod opening;
-pub mod running;
+pub mod package;
+pub mod trees;

@@ -5,9 +5,9 @@ ghost use Rattle.indexer.specs.Jobs.{GivesRole};
 ghost use Rattle.indexer.specs.Turns.{HasLists, IsBetween};
 
 use crate::job::{Job, Role};
+use crate::workers::lister::walk;
 use crate::workers::mergers::merge_all;
-use crate::workers::parsing::parse;
-use crate::workers::walking::walk;
+use crate::workers::parser::parse;
 use firefly_outside::Tree;
 use index_findings::Findings;
 use index_rule::IndexUses;

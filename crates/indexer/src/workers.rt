@@ -1,5 +1,5 @@
 //! The three kinds of worker: walkers, parsers and mergers.
 
+pub mod lister;
 pub mod mergers;
-pub mod parsing;
-pub mod walking;
+pub mod parser;

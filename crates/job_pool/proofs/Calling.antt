@@ -9,7 +9,7 @@ use Rattle.job_pool.specs.declared.job.Work.{Work}
 use Rattle.job_pool.specs.declared.job.Work.TheVariants.{Value, Stop}
 use Rattle.job_pool.specs.declared.slot.Slot.{Slot}
 use Rattle.job_pool.specs.Jobs.{AreDone, AreStopped, MayBeNext}
-use Rattle.job_pool.specs.Pieces.{Comes}
+use Rattle.job_pool.specs.Batches.{Comes}
 use Rattle.job_pool.specs.Slots.{fresh, slots_of, HasValue, StopsAt, WasCalled, MayBeCalled, MayBeWorked}
 use Rattle.job_pool.proofs.Lists.{zip_refl, zip_trans, zip_set, zip_append}
 

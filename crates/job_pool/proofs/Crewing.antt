@@ -4,7 +4,7 @@ use Rattle.std.specs.List.{AllZip, AllByRecursion}
 use Rattle.nub_rule.specs.Known.{Shape}
 use Rattle.job_pool.specs.declared.item.Item.{Item}
 use Rattle.job_pool.specs.Crews.{IsReady, AreReady}
-use Rattle.job_pool.specs.Pieces.{CameOf}
+use Rattle.job_pool.specs.Batches.{CameOf}
 use Rattle.job_pool.specs.Working.{Worker, HasWorked, IsBetween, AreBetween, takes_of, all_puts_of}
 use Rattle.job_pool.proofs.Moving.{first_between, first_puts, first_takes}
 use Rattle.job_pool.proofs.Placing.{came_nothing}

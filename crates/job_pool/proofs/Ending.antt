@@ -7,7 +7,7 @@ use Rattle.thread_crew.proofs.Zips.{zip_length}
 use Rattle.job_pool.specs.declared.batch.Batch.{Batch}
 use Rattle.job_pool.specs.declared.job.Work.{Work}
 use Rattle.job_pool.specs.declared.slot.Slot.{Slot}
-use Rattle.job_pool.specs.Pieces.{Comes}
+use Rattle.job_pool.specs.Batches.{Comes}
 use Rattle.job_pool.specs.Slots.{fresh, slots_of, MayBeCalled, MayBeWorked}
 use Rattle.job_pool.proofs.Calling.{all_slots, all_on}
 

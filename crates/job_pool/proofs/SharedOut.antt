@@ -1,4 +1,4 @@
--- What comes of pieces that were shared out.
+-- What comes of batches that were shared out.
 use Rattle.std.proofs.Common.{◌≡◌, ℕ, ◌+◌, ◌<◌, zero, suc, true, List, [], ◌∷◌, ◌++◌, map, length, reverse, replicate, get_or, Option as Opt, None, sym, ◌∙◌, ap, subst, arith, append-nil, Vec, Global}
 use Rattle.std.specs.Prelude.{remove}
 use Rattle.std.specs.List.{AllZip}
@@ -14,7 +14,7 @@ use Rattle.bounded_buffer.specs.Plain.{Keeps}
 use Rattle.bounded_buffer.specs.Rings.{Held}
 use Rattle.job_pool.specs.declared.item.Item.{Item}
 use Rattle.job_pool.specs.Crews.{AreReady, filled_by}
-use Rattle.job_pool.specs.Pieces.{IsPlaced, numbered}
+use Rattle.job_pool.specs.Batches.{IsPlaced, numbered}
 use Rattle.job_pool.specs.Working.{Worker, HasMoved, IsBetween, AreBetween, AreFirst, WasShared, puts_of, takes_of, has_seen_end, all_puts_of, all_takes_of}
 use Rattle.job_pool.proofs.Crewing.{Came, Crew, crew_of}
 use Rattle.job_pool.proofs.Moving.{first_between, first_puts, first_takes}
@@ -46,11 +46,11 @@ module _ {T : Type 0} where
 
 module _ {T : Type 0} (goes : T → T → Type 0) (p : Shape (Unit {0})) where
   -- what the caller and the crew did
-  pub was_shared : (room many : ℕ) (pieces : List T) (first put last : Worker T) (ws rs : List (Worker T × Vec (Item T) Global)) (took : List (Item T)) (threads : List (Worker T)) (before row : List (Opt T))
-      → IsFirst p (λ w t. []) 0 first → HasMoved p (reverse (numbered 0 pieces)) [] first put → HasMoved p [] took put last → has_seen_end last ≡ true
+  pub was_shared : (room many : ℕ) (batches : List T) (first put last : Worker T) (ws rs : List (Worker T × Vec (Item T) Global)) (took : List (Item T)) (threads : List (Worker T)) (before places : List (Opt T))
+      → IsFirst p (λ w t. []) 0 first → HasMoved p (reverse (numbered 0 batches)) [] first put → HasMoved p [] took put last → has_seen_end last ≡ true
       → AreReady p room 1 ws → AllZip (Came goes p room) ws rs → threads ≡ last ∷ map (λ r. r.0) rs → many ≡ length ws + 1
-      → IsPlaced goes (takes_of last) before → row ≡ filled_by rs before → length before ≡ length pieces → WasShared goes p many pieces threads row
-  was_shared room many pieces first put last ws rs took threads before row is_first puts takes saw ready came are count placed is_row wide =
+      → IsPlaced goes (takes_of last) before → places ≡ filled_by rs before → length before ≡ length batches → WasShared goes p many batches threads places
+  was_shared room many batches first put last ws rs took threads before places is_first puts takes saw ready came are count placed is_row wide =
       let crew : Crew goes p room 1 rs = crew_of goes p room 1 ws rs ready came in
       let own = takes.between 0 (puts.between 0 (first_between p 0 first is_first)) in
       let none = first_puts p 0 first is_first in
@@ -60,21 +60,21 @@ module _ {T : Type 0} (goes : T → T → Type 0) (p : Shape (Unit {0})) where
       record {
         count = omega arith;
         between = subst (AreBetween p 0) (sym are) (own, crew.between);
-        puts_are = ap all_puts_of are ∙ (ap (λ l. puts_of last ++ l) crew.no_puts ∙ (append-nil (puts_of last) ∙ (takes.puts_are ∙ (puts.puts_are ∙ (ap (λ l. reverse (numbered 0 pieces) ++ l) none ∙ append-nil (reverse (numbered 0 pieces)))))));
+        puts_are = ap all_puts_of are ∙ (ap (λ l. puts_of last ++ l) crew.no_puts ∙ (append-nil (puts_of last) ∙ (takes.puts_are ∙ (puts.puts_are ∙ (ap (λ l. reverse (numbered 0 batches) ++ l) none ∙ append-nil (reverse (numbered 0 batches)))))));
         caller = last;
         is_caller = ap (λ l. get_elem? l 0) are;
         saw_end = saw;
-        placed = subst (λ l. IsPlaced goes l row) (sym (ap all_takes_of are)) (subst (λ r. IsPlaced goes (takes_of last ++ all_takes_of (map (λ r. r.0) rs)) r) (sym is_row) (placed_by goes (takes_of last) rs before placed crew.came));
+        placed = subst (λ l. IsPlaced goes l places) (sym (ap all_takes_of are)) (subst (λ r. IsPlaced goes (takes_of last ++ all_takes_of (map (λ r. r.0) rs)) r) (sym is_row) (placed_by goes (takes_of last) rs before placed crew.came));
         wide = ap length is_row ∙ (long_filled_by rs before ∙ wide);
       }
 
-  -- the row is empty, and the caller took nothing yet
-  pub placed_first : (n : ℕ) (xs : List (Item T)) (first put : Worker T) (row : List (Opt T)) → IsFirst p (λ w t. []) 0 first → HasMoved p xs [] first put → row ≡ replicate n None → IsPlaced goes (takes_of put) row
-  placed_first n xs first put row is_first puts none = subst (λ l. IsPlaced goes l row) (sym (puts.takes_are ∙ first_takes p 0 first is_first)) (placed_nothing goes n row none)
+  -- the places is empty, and the caller took nothing yet
+  pub placed_first : (n : ℕ) (xs : List (Item T)) (first put : Worker T) (places : List (Opt T)) → IsFirst p (λ w t. []) 0 first → HasMoved p xs [] first put → places ≡ replicate n None → IsPlaced goes (takes_of put) places
+  placed_first n xs first put places is_first puts none = subst (λ l. IsPlaced goes l places) (sym (puts.takes_are ∙ first_takes p 0 first is_first)) (placed_nothing goes n places none)
 
-  -- once the package is closed, each place has what came of its piece
-  pub came_to_all : (many : ℕ) (pieces : List T) (threads : List (Worker T)) (row : List (Opt T)) (values : List (Held (Item T))) → WasShared goes p many pieces threads row → KeepsLocks Keeps threads values
-      → length values ≡ 1 → AllZip (CameTo goes) pieces row
-  came_to_all many pieces threads row values s locks one =
+  -- once the package is closed, each place has what came of its batch
+  pub came_to_all : (many : ℕ) (batches : List T) (threads : List (Worker T)) (places : List (Opt T)) (values : List (Held (Item T))) → WasShared goes p many batches threads places → KeepsLocks Keeps threads values
+      → length values ≡ 1 → AllZip (CameTo goes) batches places
+  came_to_all many batches threads places values s locks one =
       let perm = all_taken threads values s.caller locks one s.is_caller s.saw_end in
-      came_back goes pieces (all_takes_of threads) row (subst (λ l. IsPermutation l (all_takes_of threads)) s.puts_are perm) s.placed s.wide
+      came_back goes batches (all_takes_of threads) places (subst (λ l. IsPermutation l (all_takes_of threads)) s.puts_are perm) s.placed s.wide

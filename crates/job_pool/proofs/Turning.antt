@@ -3,7 +3,7 @@ use Rattle.std.proofs.Common.{◌≡◌, ℕ, List, [], ◌∷◌, ◌++◌, sym
 use Rattle.nub_rule.specs.Known.{Shape}
 use Rattle.nub.specs.Ended.{IsFirst}
 use Rattle.job_pool.specs.declared.item.Item.{Item}
-use Rattle.job_pool.specs.Pieces.{CameOf, Comes}
+use Rattle.job_pool.specs.Batches.{CameOf, Comes}
 use Rattle.job_pool.specs.Working.{Worker, HasMoved, HasWorked, IsBetween, puts_of, takes_of}
 use Rattle.job_pool.proofs.Moving.{first_between, first_puts, first_takes}
 use Rattle.job_pool.proofs.Placing.{came_more, came_nothing}
@@ -31,7 +31,7 @@ module _ {T : Type 0} (goes : T → T → Type 0) (p : Shape (Unit {0})) where
   }
 
   -- one more was taken, and what came of it is last in the list
-  pub took_one : (a b c : Worker T) (list more : List (Item T)) (i j : Item T) → SoFar a b list → HasMoved p [] (i ∷ []) b c → j.place ≡ i.place → Comes goes i.piece j.piece → more ≡ list ++ j ∷ []
+  pub took_one : (a b c : Worker T) (list more : List (Item T)) (i j : Item T) → SoFar a b list → HasMoved p [] (i ∷ []) b c → j.place ≡ i.place → Comes goes i.batch j.batch → more ≡ list ++ j ∷ []
       → SoFar a c more
   took_one a b c list more i j s m same comes is = record {
     between = λ n h. m.between n (s.between n h);

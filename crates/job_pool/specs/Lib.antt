@@ -1,6 +1,6 @@
 pub mod Crews
 pub mod Jobs
-pub mod Pieces
+pub mod Batches
 pub mod Slots
 pub mod Stopping
 pub mod Working

@@ -17,7 +17,7 @@ alerts_by n (suc t) = alerts_by n t ++ (if eqb t n then [] else alert_event n t 
 
 -- no job of the batch gave Stop
 abbrev pub IsUnstopped : {J : Type 0} → Item (Batch J) → Type 0
-IsUnstopped i = HasStop i.piece.slots.items → ⊥
+IsUnstopped i = HasStop i.batch.slots.items → ⊥
 
 -- no batch has a job that gave Stop
 -- or the last one alone has, and the thread's last events are its alerts of all others

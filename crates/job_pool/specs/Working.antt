@@ -1,4 +1,4 @@
--- Threads that hand pieces over through a buffer.
+-- Threads that hand batches over through a buffer.
 use Rattle.std.specs.Prelude.{◌≡◌, ℕ, ◌+◌, ◌≤◌, Bool, true, List, [], ◌∷◌, ◌++◌, map, length, reverse, Option as Opt, Some, None}
 use mathlib.Core.Option.{some}
 use lib.ListN.{get_elem?}
@@ -11,7 +11,7 @@ use Rattle.bounded_buffer.specs.Parts.{Used, unused}
 use Rattle.bounded_buffer.specs.Plain.{part_of}
 use Rattle.bounded_buffer.specs.Rings.{Held}
 use Rattle.job_pool.specs.declared.item.Item.{Item}
-use Rattle.job_pool.specs.Pieces.{numbered, CameOf, IsPlaced}
+use Rattle.job_pool.specs.Batches.{numbered, CameOf, IsPlaced}
 
 -- there is a buffer
 pub record HasBuffer (l : Layout) : Type 0 where
@@ -83,14 +83,14 @@ module _ {T : Type 0} (goes : T → T → Type 0) where
     pub no_puts : puts_of t ≡ []
     pub came : CameOf goes (takes_of t) list
 
-  -- all pieces were put by the first thread, which saw the end, and the row has what came of all
+  -- all batches were put by the first thread, which saw the end, and the places has what came of all
   -- that was taken
-  pub record WasShared (p : Shape (Unit {0})) (many : ℕ) (pieces : List T) (threads : List (Worker T)) (row : List (Opt T)) : Type 0 where
+  pub record WasShared (p : Shape (Unit {0})) (many : ℕ) (batches : List T) (threads : List (Worker T)) (places : List (Opt T)) : Type 0 where
     pub count : length threads ≡ many
     pub between : AreBetween p 0 threads
-    pub puts_are : all_puts_of threads ≡ reverse (numbered 0 pieces)
+    pub puts_are : all_puts_of threads ≡ reverse (numbered 0 batches)
     pub caller : Worker T
     pub is_caller : get_elem? threads 0 ≡ some caller
     pub saw_end : has_seen_end caller ≡ true
-    pub placed : IsPlaced goes (all_takes_of threads) row
-    pub wide : length row ≡ length pieces
+    pub placed : IsPlaced goes (all_takes_of threads) places
+    pub wide : length places ≡ length batches

@@ -7,7 +7,7 @@ ghost use Rattle.nub_rule.specs.Plays.{test_alert_event};
 ghost use Rattle.job_pool.specs.Stopping.{alerts_by};
 ghost use Rattle.job_pool.specs.Working.{HasBuffer, IsBetween, HasMoved, has_seen_end};
 
-use crate::item::{Item, Pieces};
+use crate::item::{Batches, Item};
 use alerts::{alert, test_alert};
 use bounded_buffer::{BufferAt, TakeEnd, put, shut, take};
 use larch_actions::{CondId, MutexId, ThreadId};
@@ -29,8 +29,8 @@ fn buffer() -> BufferAt
 /// shut.
 pub fn put_in<T: Send + Drop, R: Wait>(
     rt: &R,
-    p: &Package<Pieces<T>>,
-    me: &mut Thread<Pieces<T>>,
+    p: &Package<Batches<T>>,
+    me: &mut Thread<Batches<T>>,
     item: Item<T>,
 )
     requires named { HasBuffer p.now.layout }
@@ -51,8 +51,8 @@ pub fn put_in<T: Send + Drop, R: Wait>(
 /// Takes the first item of the buffer. Blocks while the buffer is empty and open.
 pub fn take_next<T: Send + Drop, R: Wait>(
     rt: &R,
-    p: &Package<Pieces<T>>,
-    me: &mut Thread<Pieces<T>>,
+    p: &Package<Batches<T>>,
+    me: &mut Thread<Batches<T>>,
 ) -> Result<Item<T>, TakeEnd>
     requires named { HasBuffer p.now.layout }
     requires between { (n : ℕ) × IsBetween p.now n me.old }
@@ -67,7 +67,11 @@ pub fn take_next<T: Send + Drop, R: Wait>(
 }
 
 /// Shuts the buffer: nothing more comes.
-pub fn shut_off<T: Send + Drop, R: Wait>(rt: &R, p: &Package<Pieces<T>>, me: &mut Thread<Pieces<T>>)
+pub fn shut_off<T: Send + Drop, R: Wait>(
+    rt: &R,
+    p: &Package<Batches<T>>,
+    me: &mut Thread<Batches<T>>,
+)
     requires named { HasBuffer p.now.layout }
     requires between { (n : ℕ) × IsBetween p.now n me.old }
     ensures { HasMoved p.now [] [] me.old me.new }
@@ -79,8 +83,8 @@ pub fn shut_off<T: Send + Drop, R: Wait>(rt: &R, p: &Package<Pieces<T>>, me: &mu
 /// Whether the thread is to stop, as its alert says.
 pub fn is_stopped<T: Send + Drop, R: Wait>(
     rt: &R,
-    p: &Package<Pieces<T>>,
-    me: &mut Thread<Pieces<T>>,
+    p: &Package<Batches<T>>,
+    me: &mut Thread<Batches<T>>,
 ) -> bool
     requires between { (n : ℕ) × IsBetween p.now n me.old }
     ensures moved { HasMoved p.now [] [] me.old me.new }
@@ -92,8 +96,8 @@ pub fn is_stopped<T: Send + Drop, R: Wait>(
 /// Alerts all other threads of the package.
 pub fn stop_others<T: Send + Drop, R: Wait>(
     rt: &R,
-    p: &Package<Pieces<T>>,
-    me: &mut Thread<Pieces<T>>,
+    p: &Package<Batches<T>>,
+    me: &mut Thread<Batches<T>>,
 )
     requires between { (n : ℕ) × IsBetween p.now n me.old }
     ensures moved { HasMoved p.now [] [] me.old me.new }

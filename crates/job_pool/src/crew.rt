@@ -6,20 +6,20 @@ ghost use Rattle.job_pool.specs.Slots.{MayBeWorked};
 ghost use Rattle.job_pool.specs.Working.{AreFirst, HasBuffer, HasWorked};
 
 use crate::batch::Batch;
-use crate::item::{Pieces, Worked};
+use crate::item::{Batches, Worked};
 use crate::job::Job;
-use crate::working::work_batches;
+use crate::worker::work_batches;
 use nub_rule::{Package, Thread};
 use std::alloc::{AllocError, Global};
 use std::sync::Wait;
 use std::thread::Threads;
 use thread_crew::run_crew;
 
-/// Pairs each thread with a list that has room for `room` pieces. Fails only if there is no memory.
+/// Pairs each thread with a list that has room for `room` batches. Fails only if there is no memory.
 pub fn workers_of<T: Send + Drop>(
     alloc: Global,
-    p: &Package<Pieces<T>>,
-    threads: Vec<Thread<Pieces<T>>>,
+    p: &Package<Batches<T>>,
+    threads: Vec<Thread<Batches<T>>>,
     room: usize,
 ) -> Result<Vec<Worked<T>>, AllocError>
     requires named { HasBuffer p.now.layout }
@@ -41,7 +41,7 @@ pub fn workers_of<T: Send + Drop>(
 pub fn run_workers<J: Job, R: Threads + Wait + Sync>(
     rt: &R,
     alloc: Global,
-    p: &Package<Pieces<Batch<J>>>,
+    p: &Package<Batches<Batch<J>>>,
     room: usize,
     workers: Vec<Worked<Batch<J>>>,
 ) -> Vec<Worked<Batch<J>>>

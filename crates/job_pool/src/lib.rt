@@ -9,18 +9,18 @@
 #![tactic(auto)]
 
 mod batch;
+mod batches;
 mod calls;
 mod crew;
-mod cutting;
 mod item;
 mod job;
 mod opening;
+mod places;
 mod pool;
 mod pool_end;
-mod row;
-mod sharing;
+mod share;
 mod slot;
-mod working;
+mod worker;
 
 pub use job::{BoxJob, Job, Work};
 pub use pool::run_jobs;

@@ -6,10 +6,10 @@ ghost use Rattle.job_pool.specs.Jobs.{HasEnded};
 ghost use Rattle.job_pool.specs.Slots.{HasNoStop, HasStop, HasValue, IsRoom, MayBeCalled, StopsAt};
 
 use crate::batch::{Batch, call_all};
-use crate::cutting::{batch_size, cut, join, lists};
+use crate::batches::{batch_size, cut, join, lists};
 use crate::job::{Job, Work};
 use crate::pool_end::PoolEnd;
-use crate::sharing::share_out;
+use crate::share::share_out;
 use crate::slot::Slot;
 use std::alloc::{AllocError, Global};
 use std::sync::Wait;
@@ -94,7 +94,7 @@ fn push_value(values: &mut Vec<u64>, answer: Option<Work>)
 }
 
 /// Splits the slots into the jobs and the values that they gave, both in order.
-fn parted<J: Job>(slots: Vec<Slot<J>>, mut back: Vec<J>, mut values: Vec<u64>) -> (Vec<J>, Vec<u64>)
+fn split<J: Job>(slots: Vec<Slot<J>>, mut back: Vec<J>, mut values: Vec<u64>) -> (Vec<J>, Vec<u64>)
     requires back { IsRoom (vec_len slots) back.items (vec_capacity back) }
     requires values { IsRoom (vec_len slots) values.items (vec_capacity values) }
     ensures back { result.0.items ≡ map (λ s. s.job) slots.items }
@@ -154,14 +154,14 @@ pub fn run_jobs<J: Job, R: Threads + Wait + Sync>(
         Ok(batches) => {
             let mut slots = join(batches, slots);
             let stop = finish(slots.as_mut_slice());
-            let (back, values) = parted(slots, back, values);
+            let (back, values) = split(slots, back, values);
             match stop {
                 Some(place) => (PoolEnd::Stopped(place), back),
                 None => (PoolEnd::Done(values), back),
             }
         }
         Err(batches) => {
-            let (back, _values) = parted(join(batches, slots), back, values);
+            let (back, _values) = split(join(batches, slots), back, values);
             (PoolEnd::Memory, back)
         }
     }

@@ -22,7 +22,7 @@ few_of l ok Thread = omega (arith, ok.threads, few_threads l.version)
 pub few_in_one : (l : Layout) → IsLawful l → l.version ≡ One → l.threads ≤ 64
 few_in_one l ok one = subst (λ (v : Version). l.threads ≤ most_in v) one ok.threads
 
--- a letter stands behind the digits, the space and the newline
+-- a letter stands after the digits, the space and the newline
 pub letter_high : (k : Kind) → 97 ≤ letter k
 letter_high Mutex = omega arith
 letter_high Condition = omega arith

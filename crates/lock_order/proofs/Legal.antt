@@ -13,7 +13,7 @@ use Rattle.lock_order.proofs.Alike.{cycle_plain, cycle_back}
 use Rattle.lock_order.specs.declared.answer.OrderAnswer.{OrderAnswer}
 use Rattle.lock_order.specs.declared.answer.OrderAnswer.TheVariants.{NoCycle, Found, Illegal, BadLine, TooLong, ReadFault}
 use Rattle.lock_order.specs.Order.{HasCycle}
-use Rattle.lock_order.proofs.Linked.{tells_cycle}
+use Rattle.lock_order.proofs.Linked.{reports_cycle}
 use Rattle.lock_order.specs.Answers.{IsLegalTrace, IsJustAnswer, Agree}
 
 -- the verdict of `check` on a legal trace
@@ -70,11 +70,11 @@ other_same budget bytes left' before now v w fits x y h k = one_verdict budget b
 pub one_answer : (budget : ℕ) (bytes : List ℕ) (left' : Option (List ℕ)) (before now : ℕ) (a b : OrderAnswer) → budget < 2 ^ 64 - 1 → a ≢ ReadFault → b ≢ ReadFault
     → IsJustAnswer budget (Some bytes) left' before now a → IsJustAnswer budget (Some bytes) left' before now b → Agree a b
 one_answer budget bytes left' before now (NoCycle m) (NoCycle n) fits x y h k = ap NoCycle (h.2 ∙ same_length budget bytes h.0 k.0 fits h.1 k.1 ∙ sym k.2)
-one_answer budget bytes left' before now (NoCycle m) (Found d) fits x y h k = absurd (h.3 (same_cycles budget bytes k.0 h.0 fits k.1 h.1 (tells_cycle k.0 d k.2)))
+one_answer budget bytes left' before now (NoCycle m) (Found d) fits x y h k = absurd (h.3 (same_cycles budget bytes k.0 h.0 fits k.1 h.1 (reports_cycle k.0 d k.2)))
 one_answer budget bytes left' before now (NoCycle m) (Illegal q w) fits x y h k = none_legal budget bytes left' before now h.0 (verdict.Illegal q w) fits h.1 (λ e. cc) (λ s e. cc) k
 one_answer budget bytes left' before now (NoCycle m) (BadLine j) fits x y h k = none_legal budget bytes left' before now h.0 (verdict.BadLine j) fits h.1 (λ e. cc) (λ s e. cc) k
 one_answer budget bytes left' before now (NoCycle m) TooLong fits x y h k = none_legal budget bytes left' before now h.0 verdict.TooLong fits h.1 (λ e. cc) (λ s e. cc) k
-one_answer budget bytes left' before now (Found c) (NoCycle n) fits x y h k = absurd (k.3 (same_cycles budget bytes h.0 k.0 fits h.1 k.1 (tells_cycle h.0 c h.2)))
+one_answer budget bytes left' before now (Found c) (NoCycle n) fits x y h k = absurd (k.3 (same_cycles budget bytes h.0 k.0 fits h.1 k.1 (reports_cycle h.0 c h.2)))
 one_answer budget bytes left' before now (Found c) (Found d) fits x y h k = tt
 one_answer budget bytes left' before now (Found c) (Illegal q w) fits x y h k = none_legal budget bytes left' before now h.0 (verdict.Illegal q w) fits h.1 (λ e. cc) (λ s e. cc) k
 one_answer budget bytes left' before now (Found c) (BadLine j) fits x y h k = none_legal budget bytes left' before now h.0 (verdict.BadLine j) fits h.1 (λ e. cc) (λ s e. cc) k
@@ -108,6 +108,6 @@ one_answer budget bytes left' before now TooLong ReadFault fits x y h k = absurd
 
 pub exact_at : (budget : ℕ) (left left' : Option (List ℕ)) (before now : ℕ) (bytes : List ℕ) (a b : OrderAnswer) → budget < 2 ^ 64 - 1 → left ≡ Some bytes → a ≢ ReadFault → b ≢ ReadFault
     → IsJustAnswer budget left left' before now a → IsJustAnswer budget left left' before now b → Agree a b
-exact_at budget left left' before now bytes a b fits told x y h k =
+exact_at budget left left' before now bytes a b fits reported x y h k =
     let P : OrderAnswer → Option (List ℕ) → Type 0 = λ z o. IsJustAnswer budget o left' before now z in
-    one_answer budget bytes left' before now a b fits x y (subst (P a) told h) (subst (P b) told k)
+    one_answer budget bytes left' before now a b fits x y (subst (P a) reported h) (subst (P b) reported k)

@@ -6,7 +6,7 @@ use Rattle.larch_actions.specs.Actions.{Spec}
 use Rattle.larch_actions.proofs.Sets.{mem-here}
 use Rattle.lock_order.specs.declared.answer.Edge.{Edge}
 use Rattle.lock_order.specs.declared.lock_graph.LockGraph.{LockGraph}
-use Rattle.lock_order.specs.Order.{first_or, Chain, Ring, StandsBefore, IsFirst, outers, HasCycle, AreDistinct, IsCycle, TellsCycle}
+use Rattle.lock_order.specs.Order.{first_or, Chain, Ring, StandsBefore, IsFirst, outers, HasCycle, AreDistinct, IsCycle, ReportsCycle}
 use Rattle.lock_order.specs.Kept.{Before, IsKept}
 use Rattle.lock_order.specs.Circles.{first_of, links, IsLeast}
 use Rattle.lock_order.proofs.Members.{mem-there}
@@ -38,7 +38,7 @@ first_at : (ms : List ℕ) → 0 < length ms → get_or ms 0 0 ≡ first_or 0 ms
 first_at [] low = absurd (omega arith)
 first_at (m ∷ ms) low = refl
 
--- one more nesting, of the mutex at the place and the one behind it, or behind the last the first
+-- one more nesting, of the mutex at the place and the one after it, or after the last the first
 pub links_more : (k : LockGraph) (ms : List ℕ) (j inner : ℕ) → j < length ms
     → ((j + 1 < length ms) × (inner ≡ get_or ms (j + 1) 0)) ⊎ ((length ms ≤ j + 1) × (inner ≡ get_or ms 0 0))
     → take (j + 1) (links k ms (first_or 0 ms)) ≡ take j (links k ms (first_or 0 ms)) ++ first_of k (get_or ms j 0) inner ∷ []
@@ -82,7 +82,7 @@ all_least a [] h = tt
 all_least a (m ∷ ms) h = (h m (mem-here m m ms refl), all_least a ms (λ n e. h n (mem-there n m ms e)))
 
 -- a cycle of what is kept, its least mutex first, tells a cycle of the events
-pub tells : (es : List Event) (now : Spec) (k : LockGraph) (ms : List ℕ) → IsKept es now k → IsCycle (Before k) ms → IsLeast (first_or 0 ms) ms → TellsCycle es (links k ms (first_or 0 ms))
+pub tells : (es : List Event) (now : Spec) (k : LockGraph) (ms : List ℕ) → IsKept es now k → IsCycle (Before k) ms → IsLeast (first_or 0 ms) ms → ReportsCycle es (links k ms (first_or 0 ms))
 tells es now k ms kept c least =
     let same = outers-links k ms (first_or 0 ms) in
     let many = length-links k ms (first_or 0 ms) in record {
@@ -99,22 +99,22 @@ head_outer : (ns : List Edge) (back : Edge) → (first_or back ns).outer.0 ≡ f
 head_outer [] back = refl
 head_outer (n ∷ ns) back = refl
 
-chain_told : (es : List Event) (ns : List Edge) (back : Edge) → AllByRecursion (IsFirst es) ns → Chain Linked ns back → Chain (StandsBefore es) (outers ns) back.outer.0
-chain_told es [] back firsts linked = tt
-chain_told es (n ∷ ns) back firsts linked =
+chain_reported : (es : List Event) (ns : List Edge) (back : Edge) → AllByRecursion (IsFirst es) ns → Chain Linked ns back → Chain (StandsBefore es) (outers ns) back.outer.0
+chain_reported es [] back firsts linked = tt
+chain_reported es (n ∷ ns) back firsts linked =
     let next = linked.0 ∙ head_outer ns back in
-    (subst (StandsBefore es n.outer.0) next (n.thread.0, n.place, firsts.0.nests), chain_told es ns back firsts.1 linked.1)
+    (subst (StandsBefore es n.outer.0) next (n.thread.0, n.place, firsts.0.nests), chain_reported es ns back firsts.1 linked.1)
 
-ring_told : (es : List Event) (ns : List Edge) → AllByRecursion (IsFirst es) ns → Ring Linked ns → Ring (StandsBefore es) (outers ns)
-ring_told es [] firsts linked = tt
-ring_told es (n ∷ ns) firsts linked = chain_told es (n ∷ ns) n firsts linked
+ring_reported : (es : List Event) (ns : List Edge) → AllByRecursion (IsFirst es) ns → Ring Linked ns → Ring (StandsBefore es) (outers ns)
+ring_reported es [] firsts linked = tt
+ring_reported es (n ∷ ns) firsts linked = chain_reported es (n ∷ ns) n firsts linked
 
 length-outers : (ns : List Edge) → length (outers ns) ≡ length ns
 length-outers [] = refl
 length-outers (n ∷ ns) = ap suc (length-outers ns)
 
-pub tells_cycle : (es : List Event) (ns : List Edge) → TellsCycle es ns → HasCycle es
-tells_cycle es ns t = (outers ns, record { two = (let many = length-outers ns in omega (arith, t.two)); distinct = t.distinct; ring = ring_told es ns t.firsts t.linked })
+pub reports_cycle : (es : List Event) (ns : List Edge) → ReportsCycle es ns → HasCycle es
+reports_cycle es ns t = (outers ns, record { two = (let many = length-outers ns in omega (arith, t.two)); distinct = t.distinct; ring = ring_reported es ns t.firsts t.linked })
 
 chain-map : (R S : ℕ → ℕ → Type 0) → ((m n : ℕ) → R m n → S m n) → (ms : List ℕ) (back : ℕ) → Chain R ms back → Chain S ms back
 chain-map R S f [] back c = tt

@@ -20,7 +20,7 @@ module _ (R : ℕ → ℕ → Type 0) where
   ring-turned x [] r = r
   ring-turned x (y ∷ ys) r = chain-append (y ∷ ys) (x ∷ []) y r.1 (r.0, tt)
 
-  -- before each of a chain but its first, and before what is behind it, stands one of the chain
+  -- before each of a chain but its first, and before what is after it, stands one of the chain
   chain-before : (x : ℕ) (xs : List ℕ) (back n : ℕ) → Chain R (x ∷ xs) back → (mem n xs ≡ true) ⊎ (n ≡ back) → (p : ℕ) × (mem p (x ∷ xs) ≡ true) × R p n
   chain-before x [] back n c (inl h) = absurd (let f : mem n [] ≡ true = h in cc)
   chain-before x [] back n c (inr e) = (x, mem-here x x [] refl, subst (R x) (sym e) c.0)

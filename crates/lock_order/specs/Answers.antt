@@ -10,7 +10,7 @@ use Rattle.trace_check.specs.Verdicts.{IsJust}
 use Rattle.lock_order.specs.declared.answer.Cycle.{Cycle}
 use Rattle.lock_order.specs.declared.answer.OrderAnswer.{OrderAnswer}
 use Rattle.lock_order.specs.declared.answer.OrderAnswer.TheVariants.{NoCycle, Found, Illegal, BadLine, TooLong, ReadFault}
-use Rattle.lock_order.specs.Order.{HasCycle, TellsCycle}
+use Rattle.lock_order.specs.Order.{HasCycle, ReportsCycle}
 
 -- The whole input is a trace text within the budget, and its events are legal.
 pub record IsLegalTrace (budget : ℕ) (bytes : List ℕ) (events : List Event) : Type 0 where
@@ -26,7 +26,7 @@ HasNoCycle budget bytes count = (events : List Event) × IsLegalTrace budget byt
 
 -- a legal trace, which has this cycle
 abbrev pub HasThisCycle : ℕ → List ℕ → Cycle → Type 0
-HasThisCycle budget bytes cycle = (events : List Event) × IsLegalTrace budget bytes events × TellsCycle events cycle
+HasThisCycle budget bytes cycle = (events : List Event) × IsLegalTrace budget bytes events × ReportsCycle events cycle
 
 -- the answer is just, for an input of these bytes; those that speak of no cycle are just where `check` may say the same
 abbrev pub IsJustAnswer : ℕ → Option (List ℕ) → Option (List ℕ) → ℕ → ℕ → OrderAnswer → Type 0

@@ -13,7 +13,7 @@ use Rattle.lock_order.specs.declared.mutex_set.MutexSet.{MutexSet}
 use Rattle.lock_order.specs.declared.lock_graph.First.{First}
 use Rattle.lock_order.specs.declared.lock_graph.LockGraph.{LockGraph}
 use Rattle.lock_order.specs.Sets.{in_mutexes}
-use Rattle.lock_order.specs.Order.{got, Nests, HasCycle, TellsCycle}
+use Rattle.lock_order.specs.Order.{got, Nests, HasCycle, ReportsCycle}
 use Rattle.trace_check.specs.declared.checker.Verdict.{Verdict}
 use Rattle.trace_check.specs.declared.checker.Verdict.TheVariants.{Legal}
 use Rattle.lock_order.specs.Answers.{IsLegalTrace}
@@ -96,7 +96,7 @@ pub record HasGiven (old : LockGraph) (t n : ℕ) (new : LockGraph) : Type 0 whe
 -- the answer on a legal trace of these events
 abbrev pub IsOrderOf : List Event → OrderAnswer → Type 0
 IsOrderOf es (NoCycle count) = (count ≡ length es) × ¬ HasCycle es
-IsOrderOf es (Found cycle) = TellsCycle es cycle
+IsOrderOf es (Found cycle) = ReportsCycle es cycle
 IsOrderOf es _ = ⊥
 
 -- of a legal trace it is kept what its events nest

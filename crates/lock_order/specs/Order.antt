@@ -76,7 +76,7 @@ abbrev pub outers : List Edge → List ℕ
 outers ns = map (λ (n : Edge). n.outer.0) ns
 
 -- The list reports a cycle: each with the first place of its two mutexes, its inner the outer of the next, and the least outer first.
-pub record TellsCycle (es : List Event) (ns : List Edge) : Type 0 where
+pub record ReportsCycle (es : List Event) (ns : List Edge) : Type 0 where
   pub two : 2 ≤ length ns
   pub distinct : AreDistinct (outers ns)
   pub linked : Ring (λ (n k : Edge). n.inner.0 ≡ k.outer.0) ns

@@ -4,7 +4,7 @@ ghost use Rattle.std.specs.List.{IsFirstBest};
 ghost use Rattle.larch_actions.specs.Sets.{mem};
 ghost use Rattle.larch_actions.specs.declared.event.Event.{Event};
 ghost use Rattle.larch_actions.specs.Actions.{Spec};
-ghost use Rattle.lock_order.specs.Order.{first_or, HasCycle, TellsCycle};
+ghost use Rattle.lock_order.specs.Order.{first_or, HasCycle, ReportsCycle};
 ghost use Rattle.lock_order.specs.Kept.{IsKept};
 ghost use Rattle.lock_order.specs.Circles.{AreLow, IsCircle, IsLeast, links};
 
@@ -17,7 +17,7 @@ use larch_actions::MutexId;
 /// A cycle of the graph, if it has one.
 pub fn cycle_in(graph: &LockGraph) -> Option<Cycle>
     requires { AreLow graph.now }
-    ensures { (es : List Event) (now : Spec) → IsKept es now graph.now → MatchOption result (¬ HasCycle es) (TellsCycle es) }
+    ensures { (es : List Event) (now : Spec) → IsKept es now graph.now → MatchOption result (¬ HasCycle es) (ReportsCycle es) }
 {
     let core = cyclic_core(graph);
     if core.is_empty() {

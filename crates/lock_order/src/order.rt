@@ -52,7 +52,7 @@ pub fn lock_order<I: Source>(input: &mut I, budget: u64) -> OrderAnswer
         → answer ≢ OrderAnswer.ReadFault
         → IsJustAnswer budget (I.left input.old) (I.left input.new) (I.faults input.old) (I.faults input.new) answer → Agree result answer }
     // A failed read is reported, and a read can fail only where no answer is due yet. So nothing is asked once a byte decides.
-    ensures told { result ≢ OrderAnswer.ReadFault → I.faults input.new ≡ I.faults input.old }
+    ensures reported { result ≢ OrderAnswer.ReadFault → I.faults input.new ≡ I.faults input.old }
     ensures later { I.faults input.old ≤ I.faults input.new }
 {
     order_all(input, budget)
@@ -62,7 +62,7 @@ pub fn lock_order<I: Source>(input: &mut I, budget: u64) -> OrderAnswer
 fn order_all<I: Source>(input: &mut I, budget: u64) -> OrderAnswer
     requires { budget < 2 ^ 64 - 1 }
     ensures just { IsJustAnswer budget (I.left input.old) (I.left input.new) (I.faults input.old) (I.faults input.new) result }
-    ensures told { result ≢ OrderAnswer.ReadFault → I.faults input.new ≡ I.faults input.old }
+    ensures reported { result ≢ OrderAnswer.ReadFault → I.faults input.new ≡ I.faults input.old }
     ensures later { I.faults input.old ≤ I.faults input.new }
 {
     let mut noting = Noting {
@@ -92,7 +92,7 @@ pub fn check<I: Source>(input: &mut I, budget: u64) -> Verdict
         → verdict ≢ Verdict.ReadFault
         → IsJust budget (I.left input.old) (I.left input.new) (I.faults input.old) (I.faults input.new) verdict → result ≡ verdict }
     // A failed read is reported, and a read can fail only where no verdict is due yet. So nothing is asked once a byte decides.
-    ensures told { result ≢ Verdict.ReadFault → I.faults input.new ≡ I.faults input.old }
+    ensures reported { result ≢ Verdict.ReadFault → I.faults input.new ≡ I.faults input.old }
     ensures later { I.faults input.old ≤ I.faults input.new }
 {
     let mut noting = Noting {

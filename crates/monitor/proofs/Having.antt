@@ -148,9 +148,9 @@ module _ {T H W : Type 0} where
 
     -- who had the mutex gave it back
     pub gave : (es : List Event) (x : T) (a b d : Known T H W) → HasBack fits p m es x a b → Adds [] (release_event b.number m) b d → Adds es (release_event a.number m) a d
-    gave es x a b d h told =
+    gave es x a b d h recorded =
         let Q : List Event → Type 0 = λ l. Adds l (release_event a.number m) a d in
-        subst Q (append-nil es) (adds_on es [] (release_event a.number m) a b d h.events (subst (λ n. Adds [] (release_event n m) b d) h.same.number told))
+        subst Q (append-nil es) (adds_on es [] (release_event a.number m) a b d h.events (subst (λ n. Adds [] (release_event n m) b d) h.same.number recorded))
 
     -- who held the mutex holds it again
     pub holds_again : (es : List Event) (n : ℕ) (s : H) (x y : T) (a b : Known T H W) → IsHolding p n m s x a → HasBack fits p m es y a b → IsHolding p n m s y b × fits p.world m y n s

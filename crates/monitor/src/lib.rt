@@ -9,8 +9,8 @@
 
 mod alertable;
 mod locked;
-mod waiting;
+mod wait;
 
 pub use alertable::{alert_locked_when, alert_wait_until};
 pub use locked::locked_when;
-pub use waiting::wait_until;
+pub use wait::wait_until;

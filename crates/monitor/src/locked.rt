@@ -8,7 +8,7 @@ ghost use Rattle.nub_rule.specs.Plays.{acquire_event, release_event};
 ghost use Rattle.nub.specs.Idle.{IsIdle};
 ghost use Rattle.nub.specs.Rest.{Adds, AtRest, IsSame};
 
-use crate::waiting::wait_until;
+use crate::wait::wait_until;
 use larch_actions::{CondId, MutexId};
 use nub_rule::{Change, Package, Thread, Uses};
 use std::sync::Wait;

@@ -26,10 +26,10 @@ use Rattle.nub.proofs.Adding.{grown, legal_as}
 use Rattle.nub.proofs.Closing.{first_living, none_held, none_there}
 
 module _ {A : Type 0} where
-  -- what stands behind the first
-  pub behind-first : (xs ys : List A) (n : ℕ) (y : A) → ys ≡ remove xs 0 → 1 ≤ length xs → get_elem? ys n ≡ some y → get_elem? xs (n + 1) ≡ some y
-  behind-first [] ys n y is some_there at = absurd (omega arith)
-  behind-first (x ∷ xs) ys n y is some_there at = let e : n + 1 ≡ suc n = omega arith in ap (get_elem? (x ∷ xs)) e ∙ (ap (λ l. get_elem? l n) (sym is) ∙ at)
+  -- what stands after the first
+  pub tail_of-first : (xs ys : List A) (n : ℕ) (y : A) → ys ≡ remove xs 0 → 1 ≤ length xs → get_elem? ys n ≡ some y → get_elem? xs (n + 1) ≡ some y
+  tail_of-first [] ys n y is some_there at = absurd (omega arith)
+  tail_of-first (x ∷ xs) ys n y is some_there at = let e : n + 1 ≡ suc n = omega arith in ap (get_elem? (x ∷ xs)) e ∙ (ap (λ l. get_elem? l n) (sym is) ∙ at)
 
   pub fewer : (xs ys : List A) → ys ≡ remove xs 0 → 1 ≤ length xs → length ys + 1 ≡ length xs
   fewer [] ys is some_there = absurd (omega arith)

@@ -15,7 +15,7 @@ use Rattle.nub_rule.specs.declared.package.Entry.{Entry}
 use Rattle.nub_rule.specs.declared.package.Stored.{Stored}
 use Rattle.nub_rule.specs.declared.view.Part.{Part}
 use Rattle.nub_rule.specs.Ends.{first_known, Leaves}
-use Rattle.nub_rule.specs.Items.{Each, Told, Shared, places_from}
+use Rattle.nub_rule.specs.Items.{Each, HistoryItem, Shared, places_from}
 use Rattle.nub_rule.specs.Known.{Known, Shape, part_of}
 use Rattle.nub.specs.Ended.{IsFirst, IsWhole, KeepsLocks}
 use Rattle.nub.specs.History.{AreStored, entries_from, entries_of}
@@ -126,9 +126,9 @@ module _ {T H W : Type 0} where
   keeps_locks layout holds threads values l = record { shares = l.shares; each_share = shares-are threads l.shares l.each_share l.shared; kept = l.kept }
 
   -- each event of the history is by one of the threads
-  by-threads : (layout : Layout) (threads : List (Known T H W)) (log : List Event) → Told layout log (map (λ t. part_of t) threads) → All (λ e. e.thread.0 < length threads) log
-  by-threads layout threads log told k e m =
-      let a = told.people k (get_or log k e) (at_get_or log k e m) in
+  by-threads : (layout : Layout) (threads : List (Known T H W)) (log : List Event) → HistoryItem layout log (map (λ t. part_of t) threads) → All (λ e. e.thread.0 < length threads) log
+  by-threads layout threads log recorded k e m =
+      let a = recorded.people k (get_or log k e) (at_get_or log k e m) in
       let n : length (map (λ t. part_of t) threads) ≡ length threads = length-map threads (λ t. part_of t) in
       omega arith
 

@@ -33,7 +33,7 @@ module _ {T H W : Type 0} where
       makes_from (by o.number) o s z number version seen mine places pen (subst (λ (n : ℕ). Makes (by n) s z) number at)
 
   -- the thread o has read its number as b, has made the event as u, and has given the pen back as z
-  module _ (o b u z : Known T H W) (pen : o.pen ≡ No) (began : b ≡ record o { pen = b.pen; next = b.next }) (told : z ≡ record u { pen = No; entries = z.entries; lost = z.lost }) where
+  module _ (o b u z : Known T H W) (pen : o.pen ≡ No) (began : b ≡ record o { pen = b.pen; next = b.next }) (recorded : z ≡ record u { pen = No; entries = z.entries; lost = z.lost }) where
     pub made_traced : (e : Event) → Makes e b u → Makes e o z
     made_traced e at =
         let far = ap (λ k. k.seen ++ at.0) began in (
@@ -43,7 +43,7 @@ module _ {T H W : Type 0} where
             own = ap₂ (λ n l. by_thread n l) (sym (ap (λ k. k.number) began)) (sym (ap (λ l. l ++ e ∷ []) far)) ∙ (at.1.own ∙ ap (λ k. k.mine ++ e ∷ []) began);
             number = λ k p. absurd (no_read o.pen k pen p);
           },
-          ap (λ k. k.seen) told ∙ (at.2 ∙ ap (λ l. l ++ e ∷ []) far),
-          ap (λ k. k.mine) told ∙ (at.3 ∙ ap (λ k. k.mine ++ e ∷ []) began),
-          ap (λ k. k.places) told ∙ (at.4 ∙ ap₂ (λ l m. l ++ length m ∷ []) (ap (λ k. k.places) began) far),
+          ap (λ k. k.seen) recorded ∙ (at.2 ∙ ap (λ l. l ++ e ∷ []) far),
+          ap (λ k. k.mine) recorded ∙ (at.3 ∙ ap (λ k. k.mine ++ e ∷ []) began),
+          ap (λ k. k.places) recorded ∙ (at.4 ∙ ap₂ (λ l m. l ++ length m ∷ []) (ap (λ k. k.places) began) far),
         )

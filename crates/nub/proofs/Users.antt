@@ -71,14 +71,14 @@ module _ {T H W : Type 0} where
   share_count threads shares each = sym (length-map shares (λ (s : H). Some s)) ∙ (sym (ap length each) ∙ length-map threads (λ (t : Known T H W). t.share))
 
   -- what each thread says of its share is so of all shares
-  pub all_told : (P : ℕ → H → Type 0) (threads : List (Known T H W)) (shares : List H) → map (λ t. t.share) threads ≡ map (λ s. Some s) shares
+  pub all_recorded : (P : ℕ → H → Type 0) (threads : List (Known T H W)) (shares : List H) → map (λ t. t.share) threads ≡ map (λ s. Some s) shares
       → Each (λ n t. (s : H) × (t.share ≡ Some s) × P n s) threads → Each P shares
-  all_told P threads shares each told n s at =
+  all_recorded P threads shares each recorded n s at =
       let many = share_count threads shares each in
       let low = (from_at shares n s at).0 in
       let t = at_below threads n (omega arith) in
       let own = share_of threads shares each n t.0 t.1 in
-      let says = told n t.0 t.1 in
+      let says = recorded n t.0 t.1 in
       let same : says.0 ≡ s = same_Some says.0 own.0 (sym says.1 ∙ own.2) ∙ some-injective own.0 s (sym own.1 ∙ at) in
       subst (P n) same says.2
 

@@ -6,7 +6,7 @@ ghost use Rattle.nub_rule.specs.Known.{HasLeft, MayLeave, MayPush, MayPop};
 ghost use Rattle.larch_actions.specs.declared.event.ThreadId.{ThreadId};
 ghost use Rattle.nub_rule.specs.Objects.{object_of, HasObject, IsGate, IsCond};
 ghost use Rattle.nub_rule.specs.Places.{most_threads};
-ghost use Rattle.nub_rule.specs.Plays.{behind, unread};
+ghost use Rattle.nub_rule.specs.Plays.{tail_of, unread};
 
 use larch_actions::ThreadId;
 use nub_rule::{
@@ -63,16 +63,16 @@ pub fn pop<U: Uses>(p: &Package<U>, me: &mut Thread<U>, at: Object) -> Option<Th
     requires inside { me.old.spin ≡ Some (object_of at) }
     requires may { MayPop at me.old }
     ensures none { result ≡ None → me.old.queue ≡ [] }
-    ensures first { (t : ThreadId) → result ≡ Some t → (me.old.queue ≡ t.0 ∷ behind me.old.queue)
+    ensures first { (t : ThreadId) → result ≡ Some t → (me.old.queue ≡ t.0 ∷ tail_of me.old.queue)
         × (me.new.owed ≡ me.old.owed ++ t.0 ∷ []) }
     ensures gate { IsGate at → me.new ≡ record me.old {
-      queue = behind me.old.queue;
-      left = behind me.old.left;
+      queue = tail_of me.old.queue;
+      left = tail_of me.old.left;
       owed = me.new.owed;
       cleared = without (object_of at) me.old.cleared;
       looked = without (object_of at) me.old.looked;
     } }
-    ensures cond { IsCond at → me.new ≡ record me.old { queue = behind me.old.queue; owed = me.new.owed } }
+    ensures cond { IsCond at → me.new ≡ record me.old { queue = tail_of me.old.queue; owed = me.new.owed } }
     ensures owes { result ≡ None → me.new.owed ≡ me.old.owed }
 {
     pop_queue(p, me, at)

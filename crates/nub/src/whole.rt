@@ -121,9 +121,9 @@ pub fn close_package<U: Uses>(
         p,
         ManuallyDrop::into_inner(threads),
     );
-    let told = history(alloc, traced, stored.as_slice());
+    let recorded = history(alloc, traced, stored.as_slice());
     drop(stored);
-    let trace = told?;
+    let trace = recorded?;
     Ok(Closed {
         layout,
         values,
@@ -171,9 +171,9 @@ pub fn close_forked<U: Uses>(
         ManuallyDrop::into_inner(ended),
         ManuallyDrop::into_inner(unborn),
     );
-    let told = history(alloc, traced, stored.as_slice());
+    let recorded = history(alloc, traced, stored.as_slice());
     drop(stored);
-    let trace = told?;
+    let trace = recorded?;
     Ok(Closed {
         layout,
         values,

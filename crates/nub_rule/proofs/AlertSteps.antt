@@ -26,14 +26,14 @@ use Rattle.nub_rule.specs.Items.{Says, AlertSeen, Core}
 use Rattle.nub_rule.specs.Owed.{IsAsleep, WakeOwed}
 use Rattle.nub_rule.specs.Parts.{IsFound, IsUntested, HasTested, MayTell, alerted_stage, alerted_stand, left_turns, turns_from, pending_of}
 use Rattle.nub_rule.specs.Places.{most_threads, bit_at, count_at, length_at, alert_at, sem_object, cond_object}
-use Rattle.nub_rule.specs.Plays.{Becomes, Grows, told, with_part, alert_event, alert_p_raise_event, test_alert_event, less, read_alert_tells, or_alert_tells, swap_alert_tells, swap_alert_in_p_tells, leave_sem_queue_tells}
+use Rattle.nub_rule.specs.Plays.{Becomes, Grows, recorded, with_part, alert_event, alert_p_raise_event, test_alert_event, less, read_alert_tells, or_alert_tells, swap_alert_tells, swap_alert_in_p_tells, leave_sem_queue_tells}
 use Rattle.nub_rule.specs.Rule.{IsKept}
 use Rattle.nub_rule.proofs.Apart.{thread-of}
 use Rattle.nub_rule.proofs.Each.{at_within, each-set, put-here, put-else}
 use Rattle.nub_rule.proofs.Idle.{idle-alerted, idle-live, idle-same, idle-spun}
 use Rattle.nub_rule.proofs.Members.{member_steps}
 use Rattle.nub_rule.proofs.Frames.{lives-frame, lives-stay, other, ready-stay}
-use Rattle.nub_rule.proofs.Lines.{some_none, distinct-behind, less-without, lines-leave, lines-same, lines-stage, mem-behind, without-absent, without-append}
+use Rattle.nub_rule.proofs.Lines.{some_none, distinct-tail_of, less-without, lines-leave, lines-same, lines-stage, mem-tail_of, without-absent, without-append}
 use Rattle.nub_rule.proofs.Beside.{idle, still}
 use Rattle.nub_rule.proofs.Beginning.{waits-stay, begun-frame, begun-same, counted-stands}
 use Rattle.nub_rule.proofs.Owing.{owes-frame, owes-leave, owes-leave-tested, owes-stage}
@@ -126,10 +126,10 @@ module _ {T H W : Type 0} (l : Layout) (traced : Bool) (w : W) (begin : W → �
   alert-marks : (e : Event) (n t x : ℕ) (b : Bool) (p : Part T H) (saw : Bool) (words : List ℕ) (homes : List (Option (Slot T))) (all : List (Part T H)) (c : Core l traced w holds words homes all) → get_elem? all n ≡ some p → t < most_threads → e.thread.0 ≡ n → IsNamed l e.action → MayTell traced p.life p.pen
       → Acts c.spec e (record c.spec { alerts = put c.spec.alerts t b }) → Says x b
       → ((q : Part T H) → q.alerted ≡ saw → get_or (set words (alert_at t) x) (alert_at t) 0 ≡ x → AlertSeen (set words (alert_at t) x) (set all n q))
-      → Marked l traced w holds e n (alert_at t) x p (λ z. record (told p z e) { alerted = saw }) words homes all
+      → Marked l traced w holds e n (alert_at t) x p (λ z. record (recorded p z e) { alerted = saw }) words homes all
   alert-marks e n t x b p saw words homes all c at low by named may acts says seen = let i = alert_at t in let wide = c.sizes.words_wide in
       let now : get_or (set words i x) i 0 ≡ x = get_or-set_same words i x 0 (omega arith) in
-      let after : List Event → Part T H = λ z. record (told p z e) { alerted = saw } in
+      let after : List Event → Part T H = λ z. record (recorded p z e) { alerted = saw } in
       marks l traced w holds e n i x p after words homes all c (record c.spec { alerts = put c.spec.alerts t b }) at by named may (alert-aside t low)
       (λ z. record { version = refl; seen = refl; mine = refl; places = refl; held = refl; share = refl; spin = refl; queue = refl; owed = refl; stand = refl; pen = refl }) acts
       (λ z. shows-alert words (set words i x) c.spinner c.queue c.owner c.spec all n p (after z) at refl t b (λ k up. other words i (count_at (cond_object k)) x (λ y. omega arith)) (λ k up. other words i (bit_at (sem_object k)) x (λ y. omega arith)) (λ k up ne. other words i (alert_at k) x (λ y. ne (thread-of k t up low (omega arith))))
@@ -142,9 +142,9 @@ module _ {T H W : Type 0} (l : Layout) (traced : Bool) (w : W) (begin : W → �
   or_alert_at : (slots id t : ℕ) (me : Me (Slot T) (View T H W)) → t < most_threads → t < l.threads → me.0.kind ≡ Member → me.0.part.wait ≡ None → MayTell traced me.0.part.life me.0.part.pen
       → Allows (IsKept l traced w begin holds) slots id me (alert_at t) (λ x. bit_or x 1) (or_alert_tells (step slots (alert_at t) 1 0 none) me)
   or_alert_at slots id t me low named kind out may = let v = me.0 in let n = v.number in let p = v.part in let i = alert_at t in let e = alert_event n t in
-      member_steps l traced w begin holds slots id i (λ x. bit_or x 1) v me.1 (λ r q ds. Learns e n p (λ z. record (told p z e) { alerted = p.alerted }) q × (ds ≡ me.1)) (or_alert_tells (step slots i 1 0 none) me) kind
+      member_steps l traced w begin holds slots id i (λ x. bit_or x 1) v me.1 (λ r q ds. Learns e n p (λ z. record (recorded p z e) { alerted = p.alerted }) q × (ds ≡ me.1)) (or_alert_tells (step slots i 1 0 none) me) kind
       (λ r q ds u. idle-live p q v.child may.0 (ap (λ (z : Part T H). z.life) u.0.2))
-      (λ r q ds world u k few is. let same : t ≡ k = thread-of t k low few (omega arith) in subst (λ (k : ℕ). (between : List Event) × Grows n p between (alert_event n k) × Becomes me (told p (p.seen ++ between) (alert_event n k)) (with_part v q, ds)) same
+      (λ r q ds world u k few is. let same : t ≡ k = thread-of t k low few (omega arith) in subst (λ (k : ℕ). (between : List Event) × Grows n p between (alert_event n k) × Becomes me (recorded p (p.seen ++ between) (alert_event n k)) (with_part v q, ds)) same
       (u.0.0, u.0.1, λ j. (with_part v (u.0.2 j), u.1 j)))
       (λ words homes all c at small.
       let r : ℕ = get_or words i 0 in
@@ -162,7 +162,7 @@ module _ {T H W : Type 0} (l : Layout) (traced : Bool) (w : W) (begin : W → �
       → Allows (IsKept l traced w begin holds) slots id me (alert_at me.0.number) (λ _. 0) (swap_alert_tells (step slots (alert_at me.0.number) 0 0 none) me)
   swap_alert_at slots id me low kind out may = let v = me.0 in let n = v.number in let p = v.part in let i = alert_at n in
       member_steps l traced w begin holds slots id i (λ _. 0) v me.1
-      (λ r q ds. ((r ≡ 0) ⊎ (r ≡ 1)) × (p.alerted ≡ true → r ≡ 1) × Learns (test_alert_event n (eqb r 1)) n p (λ z. record (told p z (test_alert_event n (eqb r 1))) { alerted = false }) q × (ds ≡ me.1)) (swap_alert_tells (step slots i 0 0 none) me) kind
+      (λ r q ds. ((r ≡ 0) ⊎ (r ≡ 1)) × (p.alerted ≡ true → r ≡ 1) × Learns (test_alert_event n (eqb r 1)) n p (λ z. record (recorded p z (test_alert_event n (eqb r 1))) { alerted = false }) q × (ds ≡ me.1)) (swap_alert_tells (step slots i 0 0 none) me) kind
       (λ r q ds u. idle-live p q v.child may.0 (ap (λ (z : Part T H). z.life) u.2.2))
       (λ r q ds world u. (u.0, u.1, u.2.0, u.2.1, λ j. (with_part v (u.2.2 j), u.3 j)))
       (λ words homes all c at small.
@@ -182,9 +182,9 @@ module _ {T H W : Type 0} (l : Layout) (traced : Bool) (w : W) (begin : W → �
       → Allows (IsKept l traced w begin holds) slots id me (alert_at me.0.number) (λ x. bit_and x (2 * s)) (swap_alert_in_p_tells (step slots (alert_at me.0.number) (2 * s) 0 none) me)
   swap_alert_in_p_at slots id s me named low kind out seen may = let v = me.0 in let n = v.number in let p = v.part in let i = alert_at n in let e = alert_p_raise_event n s in
       member_steps l traced w begin holds slots id i (λ x. bit_and x (2 * s)) v me.1
-      (λ r q ds. (r ≡ 1) × Learns e n p (λ z. record (told p z e) { alerted = false }) q × (ds ≡ me.1)) (swap_alert_in_p_tells (step slots i (2 * s) 0 none) me) kind
+      (λ r q ds. (r ≡ 1) × Learns e n p (λ z. record (recorded p z e) { alerted = false }) q × (ds ≡ me.1)) (swap_alert_in_p_tells (step slots i (2 * s) 0 none) me) kind
       (λ r q ds u. idle-live p q v.child may.0 (ap (λ (z : Part T H). z.life) u.1.2))
-      (λ r q ds world u k is. let same : s ≡ k = omega arith in subst (λ (k : ℕ). (r ≡ 1) × (between : List Event) × Grows n p between (alert_p_raise_event n k) × Becomes me (record (told p (p.seen ++ between) (alert_p_raise_event n k)) { alerted = false }) (with_part v q, ds)) same
+      (λ r q ds world u k is. let same : s ≡ k = omega arith in subst (λ (k : ℕ). (r ≡ 1) × (between : List Event) × Grows n p between (alert_p_raise_event n k) × Becomes me (record (recorded p (p.seen ++ between) (alert_p_raise_event n k)) { alerted = false }) (with_part v q, ds)) same
       (u.0, u.1.0, u.1.1, λ j. (with_part v (u.1.2 j), u.2 j)))
       (λ words homes all c at small.
       let r : ℕ = get_or words i 0 in
@@ -219,9 +219,9 @@ module _ {T H W : Type 0} (l : Layout) (traced : Bool) (w : W) (begin : W → �
       member_steps l traced w begin holds slots id i (λ x. x) v me.1 (λ r x ds. (p.alerted ≡ true → r ≡ 1) × (((r ≡ 0) × (x ≡ p)) ⊎ ((r ≡ 1) × (x ≡ q))) × (ds ≡ me.1)) (read_alert_tells (step slots i 0 0 none) me) kind
       (λ r x ds t. ⊎_elim (λ (u : (r ≡ 0) × (x ≡ p)). idle-same p x v.child u.1) (λ (u : (r ≡ 1) × (x ≡ q)). idle-alerted p x v.child u.1) t.1)
       (λ r x ds world t.
-      let told_by : (r ≡ 0 → (with_part v x, ds) ≡ me) × (r ≢ 0 → (r ≡ 1) × Becomes me q (with_part v x, ds)) = ⊎_elim
+      let recorded_by : (r ≡ 0 → (with_part v x, ds) ≡ me) × (r ≢ 0 → (r ≡ 1) × Becomes me q (with_part v x, ds)) = ⊎_elim
       (λ (u : (r ≡ 0) × (x ≡ p)). ((λ _. λ j. (with_part v (u.1 j), t.2 j)), λ miss. absurd (miss u.0)))
-      (λ (u : (r ≡ 1) × (x ≡ q)). ((λ hit. absurd (let z = u.0 in omega arith)), λ _. (u.0, λ j. (with_part v (u.1 j), t.2 j)))) t.1 in (t.0, told_by.0, told_by.1))
+      (λ (u : (r ≡ 1) × (x ≡ q)). ((λ hit. absurd (let z = u.0 in omega arith)), λ _. (u.0, λ j. (with_part v (u.1 j), t.2 j)))) t.1 in (t.0, recorded_by.0, recorded_by.1))
       (λ words homes all c at small. ⊎_elim
       (λ (hit : get_or words i 0 ≡ 0). (p, keeps, tt, idle l traced w holds words homes all i n p at c, (c.alert_seen n p at, inl (hit, refl), refl)))
       (λ (one : get_or words i 0 ≡ 1). (q, keeps, tt, sees-alert n i p words homes all at p.stand refl c one, (c.alert_seen n p at, inr (one, refl), refl)))
@@ -247,19 +247,19 @@ module _ {T H W : Type 0} (l : Layout) (traced : Bool) (w : W) (begin : W → �
       let line' : ℕ → List ℕ = λ i. put c.owed o (c.owed o) i ++ put c.queue o ys i in
       let d = c.lines.distinct o in
       let queued : mem n (c.queue o) ≡ true = ap (mem n) (sym mine.1) ∙ there in
-      let gone : ys ≡ without n (c.queue o) = ap (less n) mine.1 ∙ less-without n (c.queue o) (distinct-behind (c.owed o) (c.queue o) d) in
+      let gone : ys ≡ without n (c.queue o) = ap (less n) mine.1 ∙ less-without n (c.queue o) (distinct-tail_of (c.owed o) (c.queue o) d) in
       let is : line' o ≡ without n (line o) = (λ i. (put-here c.owed o (c.owed o) ∙ sym (without-absent n (c.owed o) (absent-before n (c.owed o) (c.queue o) d queued))) i ++ (put-here c.queue o ys ∙ gone) i) ∙ sym (without-append n (c.owed o) (c.queue o)) in
       let left : (k : ℕ) → k ≢ o → put c.queue o ys k ≡ c.queue k = λ k ne. put-else c.queue o k ys ne in
       let turn : q.turns ≡ turns_from s.stage s.at p.turns = ap (λ st. left_turns st p.turns) stood in
       let owes : WakeOwed (put c.queue o ys) words' (set all n q) = ⊎_elim
-      (λ (u : turns_from s.stage s.at p.turns ≡ s.at ∷ p.turns). owes-leave c.queue (put c.queue o ys) words words' all n p q at o (length-gates o far words (length ys)) left ((c.lines.stands n p at).lined o (mem-behind n (c.owed o) (c.queue o) queued)).0 refl refl (turn ∙ (u ∙ λ i. on i ∷ p.turns)) c.owes)
+      (λ (u : turns_from s.stage s.at p.turns ≡ s.at ∷ p.turns). owes-leave c.queue (put c.queue o ys) words words' all n p q at o (length-gates o far words (length ys)) left ((c.lines.stands n p at).lined o (mem-tail_of n (c.owed o) (c.queue o) queued)).0 refl refl (turn ∙ (u ∙ λ i. on i ∷ p.turns)) c.owes)
       (λ (u : HasTested s.stage × (turns_from s.stage s.at p.turns ≡ p.turns)). owes-leave-tested c.queue (put c.queue o ys) words words' all n p q at o s (length-gates o far words (length ys)) left (λ j ne. ap (mem j) (put-here c.queue o ys ∙ gone) ∙ mem-without j n (c.queue o) ne) queued stood on u.0 refl refl (turn ∙ u.1) c.owes)
       (turn-or-tested s.stage s.at p.turns) in (
         q,
         keeps,
         tt,
         requeues l traced w begin holds n o p q ys (c.owed o) words homes all at low here record { version = refl; life = refl; seen = refl; mine = refl; places = refl; held = refl; share = refl } refl refl mine.2 (λ e. ap (less n) e) refl refl refl c
-            (lines-leave line line' words words' all n p q at c.sizes.few o (ready-stay words (length_at o) (length ys) (λ k up z. omega arith)) is (λ k ne i. put-else c.owed o k (c.owed o) ne i ++ put-else c.queue o k ys ne i) (mem-behind n (c.owed o) (c.queue o) queued) refl c.lines)
+            (lines-leave line line' words words' all n p q at c.sizes.few o (ready-stay words (length_at o) (length ys) (λ k up z. omega arith)) is (λ k ne i. put-else c.owed o k (c.owed o) ne i ++ put-else c.queue o k ys ne i) (mem-tail_of n (c.owed o) (c.queue o) queued) refl c.lines)
             owes
             refl
             (λ h. counted-stands p q refl h refl (λ u d is on. absurd (some_none q.stand u refl is))),

@@ -16,8 +16,8 @@ use Rattle.nub_rule.specs.Items.{queue_of}
 use Rattle.nub_rule.specs.Parts.{Got}
 use Rattle.nub_rule.specs.Known.{Known, changed, known_as, part_of, values_of, value_in, IsThread, Makes, PicksShare}
 use Rattle.nub_rule.specs.Places.{most_threads, queue_at, value_at}
-use Rattle.nub_rule.specs.Plays.{Sat, with_part, told, Grows}
-use Rattle.nub_rule.specs.Slots.{find, IsDistinct, Below, behind_first}
+use Rattle.nub_rule.specs.Plays.{Sat, with_part, recorded, Grows}
+use Rattle.nub_rule.specs.Slots.{find, IsDistinct, Below, past_first}
 use Rattle.nub_rule.proofs.Each.{at_within}
 use Rattle.nub_rule.proofs.Handling.{Refilled, refilled, values-same, values-set, value-found, hands-freed, hands-queue, hands-same, hands-value}
 use Rattle.nub_rule.proofs.Seen.{fit_given, fit_moved, fit_still}
@@ -127,24 +127,24 @@ module _ {T H W : Type 0} where
   makes_as e u z z' n es lo {nx} me me' q ds a v ez em grows seen mine places = subst (λ (t : TableId × Sat T H W × Known T H W). Makes e t.2 (known_as t.0 n t.1 es lo nx)) (λ i. (sym ez i, sym em i, v i)) (u, grows, seen, mine, places)
 
   -- a step told the event e, which has the number of its thread, and changed the part by f besides
-  abbrev pub Told : (ℕ → Event) → (Part T H → Part T H) → Sat T H W → Sat T H W → Type 0
-  Told e f me me' = (between : List Event) × Grows me.0.number me.0.part between (e me.0.number) × (me' ≡ (with_part me.0 (f (told me.0.part (me.0.part.seen ++ between) (e me.0.number))), me.1))
+  abbrev pub HistoryItem : (ℕ → Event) → (Part T H → Part T H) → Sat T H W → Sat T H W → Type 0
+  HistoryItem e f me me' = (between : List Event) × Grows me.0.number me.0.part between (e me.0.number) × (me' ≡ (with_part me.0 (f (recorded me.0.part (me.0.part.seen ++ between) (e me.0.number))), me.1))
 
-  pub told_fits : (e : ℕ → Event) (f : Part T H → Part T H) (z z' : TableId) (n : ℕ) (hand : List ℕ) (me me' : Sat T H W) {kept : List T} {room : ℕ} → Told e f me me' → z' ≡ z → IsThread z n hand me kept room
+  pub recorded_fits : (e : ℕ → Event) (f : Part T H → Part T H) (z z' : TableId) (n : ℕ) (hand : List ℕ) (me me' : Sat T H W) {kept : List T} {room : ℕ} → HistoryItem e f me me' → z' ≡ z → IsThread z n hand me kept room
       → ((q : Part T H) → (f q).held ≡ q.held) → ((q : Part T H) → (f q).spin ≡ q.spin) → ((q : Part T H) → (f q).queue ≡ q.queue) → ((q : Part T H) → (f q).owed ≡ q.owed) → ((q : Part T H) → (f q).stand ≡ q.stand) → IsThread z' n hand me' kept room
-  told_fits e f z z' n hand me me' u ez i eh es eq eo et = let q = told me.0.part (me.0.part.seen ++ u.0) (e me.0.number) in fit_noted z z' n hand me me' (f q) ez u.2 i (eh q) (es q) (eq q) (eo q) (et q)
+  recorded_fits e f z z' n hand me me' u ez i eh es eq eo et = let q = recorded me.0.part (me.0.part.seen ++ u.0) (e me.0.number) in fit_noted z z' n hand me me' (f q) ez u.2 i (eh q) (es q) (eq q) (eo q) (et q)
 
-  pub told_event : (e : ℕ → Event) (f : Part T H → Part T H) (z z' : TableId) (n : ℕ) (es : List Entry) (lo : Bool) {nx : ℕ} (me me' : Sat T H W) (a : Known T H W) → Told e f me me' → known_as z n me es lo nx ≡ a → z' ≡ z → me.0.number ≡ n
+  pub recorded_event : (e : ℕ → Event) (f : Part T H → Part T H) (z z' : TableId) (n : ℕ) (es : List Entry) (lo : Bool) {nx : ℕ} (me me' : Sat T H W) (a : Known T H W) → HistoryItem e f me me' → known_as z n me es lo nx ≡ a → z' ≡ z → me.0.number ≡ n
       → ((q : Part T H) → (f q).seen ≡ q.seen) → ((q : Part T H) → (f q).mine ≡ q.mine) → ((q : Part T H) → (f q).places ≡ q.places) → Makes (e a.number) a (known_as z' n me' es lo nx)
-  told_event e f z z' n es lo me me' a u v ez num seen mine places =
-      let q = told me.0.part (me.0.part.seen ++ u.0) (e me.0.number) in
+  recorded_event e f z z' n es lo me me' a u v ez num seen mine places =
+      let q = recorded me.0.part (me.0.part.seen ++ u.0) (e me.0.number) in
       let same : me.0.number ≡ a.number = num ∙ ap (λ k. k.number) v in
       makes_as (e a.number) u.0 z z' n es lo me me' (f q) me.1 a v ez u.2 (subst (λ (t : ℕ × ℕ). Grows t.0 me.0.part u.0 (e t.1)) (λ j. (num j, same j)) u.1)
       (seen q ∙ (λ j. (me.0.part.seen ++ u.0) ++ e (same j) ∷ [])) (mine q ∙ (λ j. me.0.part.mine ++ e (same j) ∷ [])) (places q)
 
   -- the thread is one still after a step before which the slot of the mutex m, which stood first, was given back
   pub fit_freed : (m : ℕ) (s : Slot T) (z z0 z' : TableId) (n : ℕ) (hand0 hand hand' : List ℕ) (me front me' : Sat T H W) (q : Part T H) {kept : List T} {room : ℕ} → m < 64 → IsThread z n hand0 me kept room → z0 ≡ z → front.0 ≡ me.0
-      → keys front.1 ≡ hand → IsDistinct front.1 → Below 256 front.1 → ((k : ℕ) → find k front.1 ≡ find k me.1) → front.1 ≡ (value_at m, s) ∷ rest front.1 → hand' ≡ behind_first hand → z' ≡ z0 → me' ≡ (with_part front.0 q, rest front.1)
+      → keys front.1 ≡ hand → IsDistinct front.1 → Below 256 front.1 → ((k : ℕ) → find k front.1 ≡ find k me.1) → front.1 ≡ (value_at m, s) ∷ rest front.1 → hand' ≡ past_first hand → z' ≡ z0 → me' ≡ (with_part front.0 q, rest front.1)
       → q.held ≡ set front.0.part.held m None → q.spin ≡ front.0.part.spin → q.queue ≡ front.0.part.queue → q.stand ≡ front.0.part.stand → q.owed ≡ front.0.part.owed → IsThread z' n hand' me' kept room
   fit_freed m s z z0 z' n hand0 hand hand' me front me' q {kept} {room} near i ez same ks d low found first hs ez' em eh es eq est eo =
       let h = i.hands in
@@ -157,12 +157,12 @@ module _ {T H W : Type 0} where
       (λ k there nowhere. subst (λ (l : List ℕ). length l < most_threads) (ap (λ x. x.queue) (sym p)) (h.room k (ap (λ x. x.spin) (sym p) ∙ there) (ap (λ x. x.stand) (sym p) ∙ nowhere))) (λ none. ap (λ x. x.owed) p ∙ h.settled (ap (λ x. x.spin) (sym p) ∙ none)) h))
 
   -- the event that a step told after a slot was brought to the front, by the number and the queue of its thread
-  pub told_after : (e : ℕ → List ℕ → Event) (f : Part T H → Part T H) (u : List Event) (z z' : TableId) (n : ℕ) (es : List Entry) (lo : Bool) {nx : ℕ} (me me' : Sat T H W) (front : View T H W) (ds : List (ℕ × Slot T)) (a : Known T H W) → known_as z n me es lo nx ≡ a → z' ≡ z → front ≡ me.0 → me.0.number ≡ n
-      → Grows front.number front.part u (e front.number front.part.queue) → me' ≡ (with_part front (f (told front.part (front.part.seen ++ u) (e front.number front.part.queue))), ds)
+  pub recorded_after : (e : ℕ → List ℕ → Event) (f : Part T H → Part T H) (u : List Event) (z z' : TableId) (n : ℕ) (es : List Entry) (lo : Bool) {nx : ℕ} (me me' : Sat T H W) (front : View T H W) (ds : List (ℕ × Slot T)) (a : Known T H W) → known_as z n me es lo nx ≡ a → z' ≡ z → front ≡ me.0 → me.0.number ≡ n
+      → Grows front.number front.part u (e front.number front.part.queue) → me' ≡ (with_part front (f (recorded front.part (front.part.seen ++ u) (e front.number front.part.queue))), ds)
       → ((q : Part T H) → (f q).seen ≡ q.seen) → ((q : Part T H) → (f q).mine ≡ q.mine) → ((q : Part T H) → (f q).places ≡ q.places) → Makes (e a.number a.queue) a (known_as z' n me' es lo nx)
-  told_after e f u z z' n es lo me me' front ds a v ez same num grows em seen mine places =
-      let w = subst (λ (x : View T H W). Grows x.number x.part u (e x.number x.part.queue) × (me' ≡ (with_part x (f (told x.part (x.part.seen ++ u) (e x.number x.part.queue))), ds))) same (grows, em) in
-      let q = told me.0.part (me.0.part.seen ++ u) (e me.0.number me.0.part.queue) in
+  recorded_after e f u z z' n es lo me me' front ds a v ez same num grows em seen mine places =
+      let w = subst (λ (x : View T H W). Grows x.number x.part u (e x.number x.part.queue) × (me' ≡ (with_part x (f (recorded x.part (x.part.seen ++ u) (e x.number x.part.queue))), ds))) same (grows, em) in
+      let q = recorded me.0.part (me.0.part.seen ++ u) (e me.0.number me.0.part.queue) in
       let is : e me.0.number me.0.part.queue ≡ e a.number a.queue = λ j. e ((num ∙ ap (λ k. k.number) v) j) (ap (λ k. k.queue) v j) in
       makes_as (e a.number a.queue) u z z' n es lo me me' (f q) ds a v ez w.1 (subst (λ (t : ℕ × Event). Grows t.0 me.0.part u t.1) (λ j. (num j, is j)) w.0)
       (seen q ∙ (λ j. (me.0.part.seen ++ u) ++ is j ∷ [])) (mine q ∙ (λ j. me.0.part.mine ++ is j ∷ [])) (places q)

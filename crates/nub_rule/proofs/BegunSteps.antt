@@ -24,13 +24,13 @@ use Rattle.nub_rule.specs.Begun.{BegunWaits}
 use Rattle.nub_rule.specs.Items.{Core, Conditions, Knows}
 use Rattle.nub_rule.specs.Parts.{MayTell, counts_in, pending_of}
 use Rattle.nub_rule.specs.Places.{life_at, bit_at, count_at, alert_at, waits_at, sem_object, cond_object}
-use Rattle.nub_rule.specs.Plays.{Becomes, Grows, told, with_part, event, signal_action, broadcast_action, raise_waits_tells, lower_waits_tells, read_waits_tells}
+use Rattle.nub_rule.specs.Plays.{Becomes, Grows, recorded, with_part, event, signal_action, broadcast_action, raise_waits_tells, lower_waits_tells, read_waits_tells}
 use Rattle.nub_rule.specs.Rule.{IsKept}
 use Rattle.nub_rule.proofs.Each.{each-set, at_below, put-at, put-else}
 use Rattle.nub_rule.proofs.Idle.{idle-live, idle-raised}
 use Rattle.nub_rule.proofs.Members.{member_steps}
 use Rattle.nub_rule.proofs.Frames.{lives-frame, lived-frame, lives-stay, SameCounts, other, bits-stay, spins-stay, ready-stay, shown-stay, pen-stay, spins-frame, lines-frame, shows-frame, pens-frame, holders-frame, pendings-frame, semaphores-frame, alerts-frame, alert-seen-frame, alert-seen-stays}
-use Rattle.nub_rule.proofs.Lines.{some_none, not_true, both_ways, mem-behind, stand_some}
+use Rattle.nub_rule.proofs.Lines.{some_none, not_true, both_ways, mem-tail_of, stand_some}
 use Rattle.nub_rule.proofs.Beside.{beside}
 use Rattle.nub_rule.proofs.Owing.{owes-frame}
 use Rattle.nub_rule.proofs.Beginning.{raisers-few, raisers-some, begun-same, begun-raise, begun-lower, counts-some}
@@ -145,7 +145,7 @@ module _ {T H W : Type 0} (l : Layout) (traced : Bool) (w : W) (begin : W → �
 
     nobody-left : (t : ℕ) → mem t (k.shows.conditions.left c) ≡ false
     nobody-left t = let o : ℕ = cond_object c in k.shows.conditions.queued c t (not_true (mem t (k.queue o)) (λ there.
-        let lined = mem-behind t (k.owed o) (k.queue o) there in
+        let lined = mem-tail_of t (k.owed o) (k.queue o) there in
         let v = at_below all t (k.lines.people o t lined) in
         let st = stand_some v.0.stand o ((k.lines.stands t v.0 v.1).lined o lined).0 in
         nobody-raised t v.0 v.1 ((k.begun.covered t v.0 v.1).stander st.0 c st.1 st.2).0))
@@ -159,33 +159,33 @@ module _ {T H W : Type 0} (l : Layout) (traced : Bool) (w : W) (begin : W → �
   read_waits_at action f slots id c me low kind out may none_f acts i word = let v = me.0 in let n = v.number in let p = v.part in let o : ℕ = waits_at (cond_object c) in let e = event n (action c []) in
       subst (λ (i : ℕ). Allows (IsKept l traced w begin holds) slots id me i (λ x. x) (read_waits_tells action (step slots i 0 0 none) me)) (sym word)
       (member_steps l traced w begin holds slots id o (λ x. x) v me.1
-      (λ r q ds. ((r ≡ 0) × Learns e n p (λ z. told p z e) q × (ds ≡ me.1)) ⊎ ((r ≢ 0) × (q ≡ record p { calling = Some c }) × (ds ≡ me.1))) (read_waits_tells action (step slots o 0 0 none) me) kind
-      (λ r q ds t. idle-live p q v.child may.0 (⊎_elim (λ (u : (r ≡ 0) × Learns e n p (λ z. told p z e) q × (ds ≡ me.1)). ap (λ (z : Part T H). z.life) u.1.2) (λ (u : (r ≢ 0) × (q ≡ record p { calling = Some c }) × (ds ≡ me.1)). ap (λ (z : Part T H). z.life) u.1) t))
+      (λ r q ds. ((r ≡ 0) × Learns e n p (λ z. recorded p z e) q × (ds ≡ me.1)) ⊎ ((r ≢ 0) × (q ≡ record p { calling = Some c }) × (ds ≡ me.1))) (read_waits_tells action (step slots o 0 0 none) me) kind
+      (λ r q ds t. idle-live p q v.child may.0 (⊎_elim (λ (u : (r ≡ 0) × Learns e n p (λ z. recorded p z e) q × (ds ≡ me.1)). ap (λ (z : Part T H). z.life) u.1.2) (λ (u : (r ≢ 0) × (q ≡ record p { calling = Some c }) × (ds ≡ me.1)). ap (λ (z : Part T H). z.life) u.1) t))
       (λ r q ds world t d is. let same : c ≡ d = omega arith in
-      subst (λ (d : ℕ). (r ≡ 0 → (between : List Event) × Grows n p between (event n (action d [])) × Becomes me (told p (p.seen ++ between) (event n (action d []))) (with_part v q, ds)) × (r ≢ 0 → Becomes me (record p { calling = Some d }) (with_part v q, ds))) same
+      subst (λ (d : ℕ). (r ≡ 0 → (between : List Event) × Grows n p between (event n (action d [])) × Becomes me (recorded p (p.seen ++ between) (event n (action d []))) (with_part v q, ds)) × (r ≢ 0 → Becomes me (record p { calling = Some d }) (with_part v q, ds))) same
       (⊎_elim
-      (λ (u : (r ≡ 0) × Learns e n p (λ z. told p z e) q × (ds ≡ me.1)). ((λ _. (u.1.0, u.1.1, λ j. (with_part v (u.1.2 j), u.2 j))), λ miss. absurd (miss u.0)))
+      (λ (u : (r ≡ 0) × Learns e n p (λ z. recorded p z e) q × (ds ≡ me.1)). ((λ _. (u.1.0, u.1.1, λ j. (with_part v (u.1.2 j), u.2 j))), λ miss. absurd (miss u.0)))
       (λ (u : (r ≢ 0) × (q ≡ record p { calling = Some c }) × (ds ≡ me.1)). ((λ hit. absurd (u.0 hit)), λ _ j. (with_part v (u.1 j), u.2 j))) t))
       (λ words homes all k at small.
       let r : ℕ = get_or words o 0 in
       let words' : List ℕ = set words o r in
       let stay : (j : ℕ) → get_or words' j 0 ≡ get_or words j 0 = λ j. ap (λ (z : List ℕ). get_or z j 0) (set-get_or words o 0) in dite (ℕ_discrete r 0)
       (λ hit.
-      let done = marks l traced w holds e n o r p (λ z. told p z e) words homes all k (record k.spec { members = put k.spec.members c f }) at refl (acts words homes all k at).0 may (waits-aside c low)
+      let done = marks l traced w holds e n o r p (λ z. recorded p z e) words homes all k (record k.spec { members = put k.spec.members c f }) at refl (acts words homes all k at).0 may (waits-aside c low)
       (λ z. record { version = refl; seen = refl; mine = refl; places = refl; held = refl; share = refl; spin = refl; queue = refl; owed = refl; stand = refl; pen = refl })
       (acts words homes all k at).1
       (λ z. record {
-        holders = holders-frame all n p (told p z e) at k.owner k.spec.holder refl k.shows.holders;
-        pendings = pendings-frame all n p (told p z e) at k.spec.pending refl k.shows.pendings;
+        holders = holders-frame all n p (recorded p z e) at k.owner k.spec.holder refl k.shows.holders;
+        pendings = pendings-frame all n p (recorded p z e) at k.spec.pending refl k.shows.pendings;
         semaphores = semaphores-frame k.spec.avail words words' (λ j lo. stay (bit_at (sem_object j))) k.shows.semaphores;
         alerts = alerts-frame k.spec.alerts words words' (λ j lo. stay (alert_at j)) k.shows.alerts;
-        conditions = conditions-quiet words words' k.spinner k.queue k.spec.members all n p (told p z e) at k.shows.conditions c f (λ j lo. stay (count_at (cond_object j))) refl refl refl refl none_f (nobody-left c words homes all k low hit) (nobody-counts c words homes all k low hit);
-        lives = lived-frame all n p (told p z e) at k.spec.life refl k.shows.lives;
+        conditions = conditions-quiet words words' k.spinner k.queue k.spec.members all n p (recorded p z e) at k.shows.conditions c f (λ j lo. stay (count_at (cond_object j))) refl refl refl refl none_f (nobody-left c words homes all k low hit) (nobody-counts c words homes all k low hit);
+        lives = lived-frame all n p (recorded p z e) at k.spec.life refl k.shows.lives;
       })
-      (λ z. alert-seen-frame all n p (told p z e) at words words' k.sizes.few (λ j lo. stay (alert_at j)) refl k.alert_seen)
-      (λ z. lives-frame all n p (told p z e) at words words' k.sizes.few (λ j lo. stay (life_at j)) refl k.lives)
-      (λ z. owes-frame k.queue words words' all n p (told p z e) at (λ j lo. stay (bit_at j)) refl refl refl k.owes)
-      (λ z. begun-same words words' all n p (told p z e) at (λ j lo. stay (waits_at (cond_object j))) refl refl refl k.begun) in
+      (λ z. alert-seen-frame all n p (recorded p z e) at words words' k.sizes.few (λ j lo. stay (alert_at j)) refl k.alert_seen)
+      (λ z. lives-frame all n p (recorded p z e) at words words' k.sizes.few (λ j lo. stay (life_at j)) refl k.lives)
+      (λ z. owes-frame k.queue words words' all n p (recorded p z e) at (λ j lo. stay (bit_at j)) refl refl refl k.owes)
+      (λ z. begun-same words words' all n p (recorded p z e) at (λ j lo. stay (waits_at (cond_object j))) refl refl refl k.begun) in
       (done.0, keeps, tt, done.1, inl (hit, done.2, refl)))
       (λ miss. (
         record p { calling = Some c },

@@ -11,7 +11,7 @@ use Rattle.nub_rule.specs.Items.{Spins, Lines, Shows, Pens, AlertSeen, Core}
 use Rattle.nub_rule.specs.Owed.{WakeOwed}
 use Rattle.nub_rule.specs.Begun.{BegunWaits}
 use Rattle.nub_rule.specs.Places.{value_at}
-use Rattle.nub_rule.proofs.Frames.{SameBits, SameLives, lives-frame, sizes-frame, told-frame, owned-frame, spins-frame, shows-frame, pens-frame}
+use Rattle.nub_rule.proofs.Frames.{SameBits, SameLives, lives-frame, sizes-frame, recorded-frame, owned-frame, spins-frame, shows-frame, pens-frame}
 
 module _ {T H W : Type 0} (l : Layout) (traced : Bool) (w : W) (holds : W → List T → List H → Type 0) where
   -- the parts of p that the history, the mutexes and their values read are those of q
@@ -40,7 +40,7 @@ module _ {T H W : Type 0} (l : Layout) (traced : Bool) (w : W) (holds : W → Li
       shares = c.shares;
       sizes = sizes-frame all n p q at l words words' homes homes' ew eh a.version (ap length a.held) c.sizes;
       run = c.run;
-      told = told-frame all n p q at l c.log a.seen a.mine a.places c.told;
+      recorded = recorded-frame all n p q at l c.log a.seen a.mine a.places c.recorded;
       owned = owned-frame all n p q at l (holds w) c.owner c.values c.shares words words' homes homes' c.sizes.lawful ws hs a.held a.share c.owned;
       spins = spins;
       lines = lines;

@@ -25,18 +25,18 @@ use Rattle.nub_rule.specs.declared.view.Part.{Part}
 use Rattle.nub_rule.specs.declared.view.Wait.{Wait}
 use Rattle.nub_rule.specs.declared.view.View.{View}
 use Rattle.nub_rule.specs.declared.view.Kind.TheVariants.{Member}
-use Rattle.nub_rule.specs.Items.{Told, Shows, Pens, Core}
+use Rattle.nub_rule.specs.Items.{HistoryItem, Shows, Pens, Core}
 use Rattle.nub_rule.specs.Begun.{IsCounted}
 use Rattle.nub_rule.specs.Parts.{is_at, Got, Lacks, MayTell, waits_on, counts_in, pending_of}
 use Rattle.nub_rule.specs.Places.{bit_at, value_at, queue_at, cond_object}
-use Rattle.nub_rule.specs.Plays.{with_part, told, Grows, event, acquire_event, release_event, taken_action, MayTake, try_bit_tells, clear_bit_tells, Won, Freed, Becomes, MayFree}
+use Rattle.nub_rule.specs.Plays.{with_part, recorded, Grows, event, acquire_event, release_event, taken_action, MayTake, try_bit_tells, clear_bit_tells, Won, Freed, Becomes, MayFree}
 use Rattle.nub_rule.specs.Rule.{FitsAs, IsKept}
 use Rattle.nub_rule.proofs.Each.{at_within, at_below, put-here, put-else}
 use Rattle.nub_rule.proofs.Idle.{idle-live}
 use Rattle.nub_rule.proofs.Members.{Steps, member_steps}
 use Rattle.nub_rule.proofs.Runs.{run-of, leads-snoc}
-use Rattle.nub_rule.proofs.Frames.{lives-stay, lives-frame, other, sizes-frame, told-event, spins-frame, lines-frame, ready-stay, spins-stay, shown-stay, pen-stay, alert-seen-stays, alert-seen-frame}
-use Rattle.nub_rule.proofs.Lines.{not_true, stand_none, mem-behind, lines-same}
+use Rattle.nub_rule.proofs.Frames.{lives-stay, lives-frame, other, sizes-frame, recorded-event, spins-frame, lines-frame, ready-stay, spins-stay, shown-stay, pen-stay, alert-seen-stays, alert-seen-frame}
+use Rattle.nub_rule.proofs.Lines.{not_true, stand_none, mem-tail_of, lines-same}
 use Rattle.nub_rule.proofs.SpinSteps.{nobody-by, one-by}
 use Rattle.nub_rule.proofs.Penning.{either_way, pens-event, numbered-by}
 use Rattle.nub_rule.proofs.Beside.{still}
@@ -90,9 +90,9 @@ module _ {T H W : Type 0} (l : Layout) (traced : Bool) (w : W) (begin : W → �
 
   -- the thread n takes the bit of m, which nobody has, with its value: what is left to show is what was told, what is shown, and the pen
   pub bit_taken : (n m : ℕ) (p q : Part T H) (x : T) (words : List ℕ) (homes : List (Option (Slot T))) (all : List (Part T H)) → get_elem? all n ≡ some p → m < l.mutexes → (c : Core l traced w holds words homes all) → get_or words (bit_at m) 0 ≡ 0 → get_elem? c.values m ≡ some x → HasTaken m x p q
-      → (log : List Event) (spec : Spec) → IsRun l.version log spec → Told l log (set all n q) → Shows (set words (bit_at m) 1) c.spinner c.queue (put c.owner m (some n)) spec (set all n q) → Pens traced (length log) (set words (bit_at m) 1) c.writer (set all n q)
+      → (log : List Event) (spec : Spec) → IsRun l.version log spec → HistoryItem l log (set all n q) → Shows (set words (bit_at m) 1) c.spinner c.queue (put c.owner m (some n)) spec (set all n q) → Pens traced (length log) (set words (bit_at m) 1) c.writer (set all n q)
       → Core l traced w holds (tried_words m words) (set homes (value_at m) none) (set all n q)
-  bit_taken n m p q x words homes all at inside c hit found t log spec run told' shows pens =
+  bit_taken n m p q x words homes all at inside c hit found t log spec run recorded' shows pens =
       let r : ℕ = get_or words (bit_at m) 0 in let lawful = c.sizes.lawful in let ws = c.sizes.words_wide in
       let words' : List ℕ = set words (bit_at m) 1 in
       let homes' : List (Option (Slot T)) = set homes (value_at m) none in
@@ -110,7 +110,7 @@ module _ {T H W : Type 0} (l : Layout) (traced : Bool) (w : W) (begin : W → �
         shares = c.shares;
         sizes = sizes-frame all n p q at l words words' homes homes' (length-set words (bit_at m) 1) (length-set homes (value_at m) none) t.version (ap length t.held ∙ length-set p.held m (Some x)) c.sizes;
         run = run;
-        told = told';
+        recorded = recorded';
         owned = owned-take l (holds w) c.owner c.values c.shares words homes all n m p q at c.owned wide (omega arith) inside lawful x free found t.held t.share;
         spins = spins-frame all n p q at c.spinner c.queue c.owed words words' homes homes' (spins-stay words (bit_at m) 1 (λ k up z. omega arith) (λ k up z. omega arith)) (λ k lo. set_else homes (value_at m) (queue_at k) none (λ z. omega arith)) t.spin t.queue t.owed c.spins;
         lines = lines-frame all n p q at (λ k. c.owed k ++ c.queue k) words words' c.sizes.few (ready-stay words (bit_at m) 1 (λ k up z. omega arith)) t.stand c.lines;
@@ -155,7 +155,7 @@ module _ {T H W : Type 0} (l : Layout) (traced : Bool) (w : W) (begin : W → �
       let m : ℕ = x.mutex.0 in
       let not_counted : (c k : ℕ) → counts_in p.wait c k ≡ false = λ c k. ap (λ w. counts_in w c k) in_wait ∙ counts-none x c k outside in
       let o : ℕ = cond_object x.cond.0 in
-      let unqueued : mem n (c.queue o) ≡ false = not_true (mem n (c.queue o)) (λ is. stand_none p.stand o apart ((c.lines.stands n p at).lined o (mem-behind n (c.owed o) (c.queue o) is)).0) in
+      let unqueued : mem n (c.queue o) ≡ false = not_true (mem n (c.queue o)) (λ is. stand_none p.stand o apart ((c.lines.stands n p at).lined o (mem-tail_of n (c.owed o) (c.queue o) is)).0) in
       let out : c.spec.members x.cond.0 n ≡ false = s.member x.cond.0 n ∙ (ap (λ b. cond b true (s.counting x.cond.0 n)) (s.queued x.cond.0 n unqueued) ∙ (t.counts x.cond.0 ∙ not_counted x.cond.0 (s.count x.cond.0))) in
       let f = put c.spec.pending n Nothing in
       let pends : c.spec.pending n ≡ cond x.alertable (AlertWaiting x.mutex x.cond) (Waiting x.mutex x.cond) = c.shows.pendings.pends n p at ∙ ap pending_of in_wait in (
@@ -180,7 +180,7 @@ module _ {T H W : Type 0} (l : Layout) (traced : Bool) (w : W) (begin : W → �
 
   -- the part of the thread that wins the mutex m with the value x
   abbrev winner : Part T H → ℕ → T → List Event → Event → Part T H
-  winner p m x log e = record (told p log e) { held = set p.held m (Some x); wait = None; failed = without m p.failed; turns = without m p.turns }
+  winner p m x log e = record (recorded p log e) { held = set p.held m (Some x); wait = None; failed = without m p.failed; turns = without m p.turns }
 
   -- what the winner of the mutex m learns
   abbrev Wins : (W → ℕ → T → ℕ → H → Type 0) → Event → ℕ → ℕ → Part T H → List (ℕ × Slot T) → Part T H → List (ℕ × Slot T) → Type 0
@@ -199,7 +199,7 @@ module _ {T H W : Type 0} (l : Layout) (traced : Bool) (w : W) (begin : W → �
         let found = at_below c.values m (let z = o.values_wide in omega arith) in
         let x = found.0 in
         let wide : length p.held ≡ 64 = c.sizes.parts_wide n p at in
-        let chronicle = c.told.each n p at in
+        let chronicle = c.recorded.each n p at in
         let seen = chronicle.begins in
         let q = winner p m x (p.seen ++ seen.0) e in
         let longer : q.seen ≡ c.log ++ e ∷ [] = ap (λ (z : List Event). z ++ e ∷ []) (sym seen.1) in
@@ -207,14 +207,14 @@ module _ {T H W : Type 0} (l : Layout) (traced : Bool) (w : W) (begin : W → �
         let take = taking words homes all c at free in
         let spec' = took c.spec m n take.0 in
         let run = leads-snoc (at_first l.version) c.log c.spec e spec' c.run take.1 in
-        let told' = told-event all n p q at l c.log e by (naming words homes all c at) longer refl placed c.told in
+        let recorded' = recorded-event all n p q at l c.log e by (naming words homes all c at) longer refl placed c.recorded in
         let words' : List ℕ = set words (bit_at m) 1 in
         let homes' : List (Option (Slot T)) = set homes (value_at m) none in
         let more : length (c.log ++ e ∷ []) ≡ length c.log + 1 = length-append c.log (e ∷ []) in (
           q,
           takes (value_at m) (Value (Some x)),
           o.at_home m inside x found.1 free,
-          bit_taken n m p q x words homes all at inside c hit found.1 record { version = refl; life = refl; held = refl; share = refl; spin = refl; queue = refl; owed = refl; stand = refl; alerted = refl; cleared = refl; turns = refl; raised = refl; counted = λ h. counted-over p q refl h refl apart } (c.log ++ e ∷ []) spec' run told'
+          bit_taken n m p q x words homes all at inside c hit found.1 record { version = refl; life = refl; held = refl; share = refl; spin = refl; queue = refl; owed = refl; stand = refl; alerted = refl; cleared = refl; turns = refl; raised = refl; counted = λ h. counted-over p q refl h refl apart } (c.log ++ e ∷ []) spec' run recorded'
               (shows-wins words words' (shown-stay words (bit_at m) 1 (λ k up z. omega arith) (λ k up z. omega arith) (λ k up z. omega arith)) c.spinner c.queue c.owner c.spec all n p q at refl m take.0 refl refl refl take.4 take.5 take.2 take.3 c.shows)
               (subst (λ (z : ℕ). Pens traced z words' c.writer (set all n q)) (sym more) (pens-event traced (length c.log) words c.writer all n p q at words' (pen-stay words (bit_at m) 1 (λ z. omega arith) (λ z. omega arith)).0 (pen-stay words (bit_at m) 1 (λ z. omega arith) (λ z. omega arith)).1 may refl c.pens)),
           inl (
@@ -225,7 +225,7 @@ module _ {T H W : Type 0} (l : Layout) (traced : Bool) (w : W) (begin : W → �
               (λ s is. let u = o.shared n p at in let f : Some u.0 ≡ Some s = sym u.1 ∙ is in let g : u.0 ≡ s = cc in law c.values c.shares o.kept m x found.1 n s (u.2 ∙ ap some g)),
               record {
                 legal = (spec', run-of l.version p.version (c.sizes.versions n p at) spec' (sym longer) run);
-                own = ap (by_thread n) longer ∙ (told'.each n q (set_here all n q (at_within all n p at))).own;
+                own = ap (by_thread n) longer ∙ (recorded'.each n q (set_here all n q (at_within all n p at))).own;
                 number = λ k is. numbered-by traced (length c.log) words c.writer all n p q at c.pens k is ∙ ap (λ (z : List Event). length z) seen.1;
               },
               lacking p m (omega arith) (λ has. some-ne-none n (sym ((o.standing n p at m).0 has) ∙ free)),
@@ -258,7 +258,7 @@ module _ {T H W : Type 0} (l : Layout) (traced : Bool) (w : W) (begin : W → �
   -- what the thread n learns that frees the mutex m
   abbrev Frees : (H → H) → ℕ → ℕ → Part T H → List (ℕ × Slot T) → Part T H → List (ℕ × Slot T) → Type 0
   Frees next m n p cs q ds = (s : H) × (p.share ≡ Some s) × (between : List Event) × Grows n p between (release_event n m)
-      × (q ≡ record (told p (p.seen ++ between) (release_event n m)) { held = set p.held m None; share = Some (next s); cleared = m ∷ p.cleared }) × (ds ≡ rest cs)
+      × (q ≡ record (recorded p (p.seen ++ between) (release_event n m)) { held = set p.held m None; share = Some (next s); cleared = m ∷ p.cleared }) × (ds ≡ rest cs)
 
   module _ (allows : W → ℕ → ℕ → T → T → H → H → Type 0)
       (law : (values : List T) (shares : List H) → holds w values shares → (m : ℕ) (x y : T) → get_elem? values m ≡ some x → (t : ℕ) (s r : H) → get_elem? shares t ≡ some s → allows w m t x y s r → holds w (set values m y) (set shares t r)) where
@@ -275,8 +275,8 @@ module _ {T H W : Type 0} (l : Layout) (traced : Bool) (w : W) (begin : W → �
         let own : c.owner m ≡ some n = (o.standing n p at m).0 (x, got) in
         let here : get_elem? c.values m ≡ some x = o.current n p at m x got in
         let wide : length p.held ≡ 64 = c.sizes.parts_wide n p at in
-        let seen = (c.told.each n p at).begins in
-        let q : Part T H = record (told p (p.seen ++ seen.0) e) { held = set p.held m None; share = Some u; cleared = m ∷ p.cleared } in
+        let seen = (c.recorded.each n p at).begins in
+        let q : Part T H = record (recorded p (p.seen ++ seen.0) e) { held = set p.held m None; share = Some u; cleared = m ∷ p.cleared } in
         let longer : q.seen ≡ c.log ++ e ∷ [] = ap (λ (z : List Event). z ++ e ∷ []) (sym seen.1) in
         let placed : q.places ≡ p.places ++ length c.log ∷ [] = ap (λ (z : List Event). p.places ++ length z ∷ []) (sym seen.1) in
         let held : c.spec.holder m ≡ some n = c.shows.holders.holds n p at m own ∙ ap (λ w. cond (waits_on w m) none (some n)) out in
@@ -284,7 +284,7 @@ module _ {T H W : Type 0} (l : Layout) (traced : Bool) (w : W) (begin : W → �
         let spec' : Spec = record c.spec { holder = put c.spec.holder m none } in
         let acts : Acts c.spec e spec' = (record { live = c.shows.lives n p at ∙ may.0; order = idle; requires_met = held; when_met = tt; choice_met = tt }, refl) in
         let run = leads-snoc (at_first l.version) c.log c.spec e spec' c.run acts in
-        let told' = told-event all n p q at l c.log e refl inside longer refl placed c.told in
+        let recorded' = recorded-event all n p q at l c.log e refl inside longer refl placed c.recorded in
         let words' : List ℕ = set words (bit_at m) 0 in
         let line : Slot T = Value (Some y) in
         let homes' : List (Option (Slot T)) = set homes (value_at m) (some line) in
@@ -304,7 +304,7 @@ module _ {T H W : Type 0} (l : Layout) (traced : Bool) (w : W) (begin : W → �
             shares = set c.shares n u;
             sizes = sizes-frame all n p q at l words words' homes homes' (length-set words (bit_at m) 0) (length-set homes (value_at m) (some line)) refl (length-set p.held m None) c.sizes;
             run = run;
-            told = told';
+            recorded = recorded';
             owned = owned-give l (holds w) c.owner c.values c.shares words homes all n m p q at o wide (omega arith) inside lawful y u own (omega arith) (at_within c.values m x here) (at_within c.shares n s mine.2) (law c.values c.shares o.kept m x y here n s u mine.2 (allowed s mine.1)) refl refl;
             spins = spins-frame all n p q at c.spinner c.queue c.owed words words' homes homes' (spins-stay words (bit_at m) 0 (λ k up z. omega arith) (λ k up z. omega arith)) (λ k lo. set_else homes (value_at m) (queue_at k) (some line) (λ z. omega arith)) refl refl refl c.spins;
             lines = lines-frame all n p q at (λ k. c.owed k ++ c.queue k) words words' c.sizes.few (ready-stay words (bit_at m) 0 (λ k up z. omega arith)) refl c.lines;
@@ -323,7 +323,7 @@ module _ {T H W : Type 0} (l : Layout) (traced : Bool) (w : W) (begin : W → �
               seen.0,
               record {
                 legal = (spec', run-of l.version p.version (c.sizes.versions n p at) spec' (sym longer) run);
-                own = ap (by_thread n) longer ∙ (told'.each n q (set_here all n q (at_within all n p at))).own;
+                own = ap (by_thread n) longer ∙ (recorded'.each n q (set_here all n q (at_within all n p at))).own;
                 number = λ k is. numbered-by traced (length c.log) words c.writer all n p q at c.pens k is ∙ ap (λ (z : List Event). length z) seen.1;
               },
               refl,

@@ -19,13 +19,13 @@ use Rattle.nub_rule.specs.declared.view.Kind.TheVariants.{Member}
 use Rattle.nub_rule.specs.Items.{Core, Conditions, Holders, Shows}
 use Rattle.nub_rule.specs.Parts.{pending_of, waits_on, open_on}
 use Rattle.nub_rule.specs.Places.{count_at, length_at, cond_object}
-use Rattle.nub_rule.specs.Plays.{with_part, behind, front, less, unread, recounted, compare_count_tells, push_cond_tells, pop_cond_tells, leave_cond_queue_tells}
+use Rattle.nub_rule.specs.Plays.{with_part, tail_of, front, less, unread, recounted, compare_count_tells, push_cond_tells, pop_cond_tells, leave_cond_queue_tells}
 use Rattle.nub_rule.specs.Rule.{IsKept}
 use Rattle.nub_rule.proofs.Each.{each-set, put-here, put-else}
 use Rattle.nub_rule.proofs.Idle.{idle-spun}
 use Rattle.nub_rule.proofs.Members.{member_steps}
 use Rattle.nub_rule.proofs.Frames.{lived-frame, SameShown, ready-stay, spins-frame, lines-frame, semaphores-frame, alerts-frame, pens-frame, alert-seen-frame}
-use Rattle.nub_rule.proofs.Lines.{mem-behind, distinct-behind, without-append, without-absent, less-without, lines-push, lines-leave, lines-same}
+use Rattle.nub_rule.proofs.Lines.{mem-tail_of, distinct-tail_of, without-append, without-absent, less-without, lines-push, lines-leave, lines-same}
 use Rattle.nub_rule.proofs.Spinning.{only_here}
 use Rattle.nub_rule.proofs.Showing.{pendings-put}
 use Rattle.nub_rule.proofs.Conditioning.{conditions-compare, conditions-push, conditions-leave, conditions-pop}
@@ -140,9 +140,9 @@ module _ {T H W : Type 0} (l : Layout) (traced : Bool) (w : W) (begin : W → �
       → Allows (IsKept l traced w begin holds) slots id me i (λ _. r) (λ _. push_cond_tells (step slots i r 0 none) me r)
   push_cond_keeps slots id c r x me i word low kind here out before on stood long = subst (λ (i : ℕ). Allows (IsKept l traced w begin holds) slots id me i (λ _. r) (λ _. push_cond_tells (step slots i r 0 none) me r)) (sym word) (push_cond_at slots id c r x me low kind here out before on stood long)
 
-  pop_cond_at : (slots id c r : ℕ) (me : Me (Slot T) (View T H W)) → c < 64 → me.0.kind ≡ Member → me.0.part.spin ≡ Some (cond_object c) → me.0.part.wait ≡ None → ((t : ℕ) → mem t (behind me.0.part.queue) ≡ false → mem t me.0.part.left ≡ false) → r ≡ length (behind me.0.part.queue)
+  pop_cond_at : (slots id c r : ℕ) (me : Me (Slot T) (View T H W)) → c < 64 → me.0.kind ≡ Member → me.0.part.spin ≡ Some (cond_object c) → me.0.part.wait ≡ None → ((t : ℕ) → mem t (tail_of me.0.part.queue) ≡ false → mem t me.0.part.left ≡ false) → r ≡ length (tail_of me.0.part.queue)
       → Allows (IsKept l traced w begin holds) slots id me (length_at (cond_object c)) (λ _. r) (λ _. pop_cond_tells (step slots (length_at (cond_object c)) r 0 none) me r)
-  pop_cond_at slots id c r me low kind here out taken long = let v = me.0 in let n = v.number in let p = v.part in let o : ℕ = cond_object c in let ys : List ℕ = behind p.queue in
+  pop_cond_at slots id c r me low kind here out taken long = let v = me.0 in let n = v.number in let p = v.part in let o : ℕ = cond_object c in let ys : List ℕ = tail_of p.queue in
       let q : Part T H = record p { queue = ys; owed = p.owed ++ front p.queue } in
       subst (λ (z : ℕ). Allows (IsKept l traced w begin holds) slots id me (length_at o) (λ _. z) (λ _. pop_cond_tells (step slots (length_at o) z 0 none) me z)) (sym long)
       (member_steps l traced w begin holds slots id (length_at o) (λ _. length ys) v me.1 (λ x s ds. (s ≡ q) × (ds ≡ me.1)) (λ _. pop_cond_tells (step slots (length_at o) (length ys) 0 none) me (length ys)) kind
@@ -171,7 +171,7 @@ module _ {T H W : Type 0} (l : Layout) (traced : Bool) (w : W) (begin : W → �
       )))
 
   -- the same at a word that is this place
-  pub pop_cond_keeps : (slots id c r : ℕ) (me : Me (Slot T) (View T H W)) (i : ℕ) → i ≡ length_at (cond_object c) → c < 64 → me.0.kind ≡ Member → me.0.part.spin ≡ Some (cond_object c) → me.0.part.wait ≡ None → ((t : ℕ) → mem t (behind me.0.part.queue) ≡ false → mem t me.0.part.left ≡ false) → r ≡ length (behind me.0.part.queue)
+  pub pop_cond_keeps : (slots id c r : ℕ) (me : Me (Slot T) (View T H W)) (i : ℕ) → i ≡ length_at (cond_object c) → c < 64 → me.0.kind ≡ Member → me.0.part.spin ≡ Some (cond_object c) → me.0.part.wait ≡ None → ((t : ℕ) → mem t (tail_of me.0.part.queue) ≡ false → mem t me.0.part.left ≡ false) → r ≡ length (tail_of me.0.part.queue)
       → Allows (IsKept l traced w begin holds) slots id me i (λ _. r) (λ _. pop_cond_tells (step slots i r 0 none) me r)
   pop_cond_keeps slots id c r me i word low kind here out taken long = subst (λ (i : ℕ). Allows (IsKept l traced w begin holds) slots id me i (λ _. r) (λ _. pop_cond_tells (step slots i r 0 none) me r)) (sym word) (pop_cond_at slots id c r me low kind here out taken long)
 
@@ -191,9 +191,9 @@ module _ {T H W : Type 0} (l : Layout) (traced : Bool) (w : W) (begin : W → �
       let line : ℕ → List ℕ = λ i. k.owed i ++ k.queue i in
       let line' : ℕ → List ℕ = λ i. put k.owed o (k.owed o) i ++ put k.queue o ys i in
       let d = k.lines.distinct o in
-      let distinct = distinct-behind (k.owed o) (k.queue o) d in
+      let distinct = distinct-tail_of (k.owed o) (k.queue o) d in
       let queued : mem n (k.queue o) ≡ true = ap (mem n) (sym mine.1) ∙ there in
-      let lined = mem-behind n (k.owed o) (k.queue o) queued in
+      let lined = mem-tail_of n (k.owed o) (k.queue o) queued in
       let now : ys ≡ less n (k.queue o) = ap (less n) mine.1 in
       let gone : ys ≡ without n (k.queue o) = now ∙ less-without n (k.queue o) distinct in
       let is : line' o ≡ without n (line o) = (λ i. (put-here k.owed o (k.owed o) ∙ sym (without-absent n (k.owed o) (absent-before n (k.owed o) (k.queue o) d queued))) i ++ (put-here k.queue o ys ∙ gone) i) ∙ sym (without-append n (k.owed o) (k.queue o)) in

@@ -23,13 +23,13 @@ use Rattle.nub_rule.specs.declared.view.Kind.TheVariants.{Member}
 use Rattle.nub_rule.specs.Items.{Core, Holders, Shows, Distinct}
 use Rattle.nub_rule.specs.Parts.{Got, MayTell, pending_of, waits_on, open_on}
 use Rattle.nub_rule.specs.Places.{life_at, bit_at, count_at, alert_at, value_at, waits_at, sem_object, cond_object}
-use Rattle.nub_rule.specs.Plays.{Becomes, Grows, told, with_part, behind, event, begun_wait, enqueue_event, signal_action, broadcast_action, load_count_tells, know_count_tells, advance_tells}
+use Rattle.nub_rule.specs.Plays.{Becomes, Grows, recorded, with_part, tail_of, event, begun_wait, enqueue_event, signal_action, broadcast_action, load_count_tells, know_count_tells, advance_tells}
 use Rattle.nub_rule.specs.Rule.{IsKept}
 use Rattle.nub_rule.proofs.Each.{each-set, put-here, put-else}
 use Rattle.nub_rule.proofs.Idle.{idle-live, idle-same}
 use Rattle.nub_rule.proofs.Members.{Steps, member_steps}
 use Rattle.nub_rule.proofs.Frames.{lives-frame, lives-stay, lived-frame, SameShown, other, pendings-frame, holders-frame, semaphores-frame, alerts-frame, alert-seen-stays, alert-seen-frame}
-use Rattle.nub_rule.proofs.Lines.{distinct-behind, mem-behind}
+use Rattle.nub_rule.proofs.Lines.{distinct-tail_of, mem-tail_of}
 use Rattle.nub_rule.proofs.Beside.{idle}
 use Rattle.nub_rule.proofs.Owing.{owes-frame}
 use Rattle.nub_rule.proofs.Beginning.{waits-stay, begun-frame, begun-same, counted-begun}
@@ -50,22 +50,22 @@ enters : (alertable : Bool) (n m c k : ℕ) (old : Spec) → old.life n ≡ Live
 enters true n m c k old lives free held = (record { live = lives; order = free; requires_met = held; when_met = tt; choice_met = tt }, refl)
 enters false n m c k old lives free held = (record { live = lives; order = free; requires_met = held; when_met = tt; choice_met = tt }, refl)
 
--- who is behind the first is in the list
-more-behind : (t : ℕ) (xs : List ℕ) → mem t (behind xs) ≡ true → mem t xs ≡ true
-more-behind t [] there = there
-more-behind t (x ∷ xs) there = dite (ℕ_discrete x t) (λ e. mem-here t x xs e) (λ ne. mem-else t x xs ne ∙ there)
+-- who is after the first is in the list
+more-tail_of : (t : ℕ) (xs : List ℕ) → mem t (tail_of xs) ≡ true → mem t xs ≡ true
+more-tail_of t [] there = there
+more-tail_of t (x ∷ xs) there = dite (ℕ_discrete x t) (λ e. mem-here t x xs e) (λ ne. mem-else t x xs ne ∙ there)
 
--- the threads behind the first may be left
-may-leave : (members : ℕ → Bool) (xs : List ℕ) → Distinct xs → ((t : ℕ) → mem t xs ≡ true → members t ≡ true) → MayLeave members (in_set (set_of (behind xs)))
+-- the threads after the first may be left
+may-leave : (members : ℕ → Bool) (xs : List ℕ) → Distinct xs → ((t : ℕ) → mem t xs ≡ true → members t ≡ true) → MayLeave members (in_set (set_of (tail_of xs)))
 may-leave members [] d h = inl (λ t. in_set-of t [])
 may-leave members (x ∷ xs) d h = inr (
-  (λ t is. h t (more-behind t (x ∷ xs) (sym (in_set-of t xs) ∙ is))),
+  (λ t is. h t (more-tail_of t (x ∷ xs) (sym (in_set-of t xs) ∙ is))),
   (x, h x (mem-here x x xs refl), in_set-of x xs ∙ d.0),
 )
 
-less-behind : (t : ℕ) (xs : List ℕ) → mem t xs ≡ false → mem t (behind xs) ≡ false
-less-behind t [] out = refl
-less-behind t (x ∷ xs) out = dite (ℕ_discrete x t)
+less-tail_of : (t : ℕ) (xs : List ℕ) → mem t xs ≡ false → mem t (tail_of xs) ≡ false
+less-tail_of t [] out = refl
+less-tail_of t (x ∷ xs) out = dite (ℕ_discrete x t)
     (λ e. absurd (let f : true ≡ false = sym (mem-here t x xs e) ∙ out in cc))
     (λ ne. sym (mem-else t x xs ne) ∙ out)
 
@@ -104,7 +104,7 @@ module _ {T H : Type 0} (words words' : List ℕ) (spinner : ℕ → Option ℕ)
 module _ {T H W : Type 0} (l : Layout) (traced : Bool) (w : W) (begin : W → ℕ → H) (holds : W → List T → List H → Type 0) where
   -- the view after the first part of a wait
   abbrev after_load : Bool → ℕ → ℕ → ℕ → ℕ → Part T H → List Event → Part T H
-  after_load alertable n m c r p z = record (told p z (enqueue_event alertable n m c)) { wait = Some (begun_wait alertable m c r) }
+  after_load alertable n m c r p z = record (recorded p z (enqueue_event alertable n m c)) { wait = Some (begun_wait alertable m c r) }
 
   loads_at : (alertable : Bool) (n m c : ℕ) (p : Part T H) (cs : List (ℕ × Slot T)) (x : T) → c < 64 → (m < l.mutexes) × (c < l.conditions) → Got p m x → p.wait ≡ None → p.left ≡ p.queue → p.raised ≡ Some c → MayTell traced p.life p.pen
       → Steps l traced w begin holds n (count_at (cond_object c)) (λ x. x) p cs (λ r q ds. Learns (enqueue_event alertable n m c) n p (after_load alertable n m c r p) q × (ds ≡ cs))
@@ -169,7 +169,7 @@ module _ {T H W : Type 0} (l : Layout) (traced : Bool) (w : W) (begin : W → �
   advances_at : (n c : ℕ) (e : Event) (ys : List ℕ) (f : ℕ → Bool) (p : Part T H) (cs : List (ℕ × Slot T)) → c < 64 → p.spin ≡ Some (cond_object c) → p.wait ≡ None → p.count < 18446744073709551615 → MayTell traced p.life p.pen → e.thread.0 ≡ n
       → ((t : ℕ) → f t ≡ mem t ys) → ((t : ℕ) → mem t p.left ≡ false → mem t ys ≡ false)
       → ((words : List ℕ) (homes : List (Option (Slot T))) (all : List (Part T H)) (k : Core l traced w holds words homes all) → get_elem? all n ≡ some p → IsNamed l e.action × Acts k.spec e (record k.spec { members = put k.spec.members c f }))
-      → Steps l traced w begin holds n (count_at (cond_object c)) (λ x. (x + 1) % 2 ^ 64) p cs (λ r q ds. (r ≡ p.count) × Distinct p.queue × Learns e n p (λ z. record (told p z e) { left = ys; count = p.count + 1; calling = None }) q × (ds ≡ cs))
+      → Steps l traced w begin holds n (count_at (cond_object c)) (λ x. (x + 1) % 2 ^ 64) p cs (λ r q ds. (r ≡ p.count) × Distinct p.queue × Learns e n p (λ z. record (recorded p z e) { left = ys; count = p.count + 1; calling = None }) q × (ds ≡ cs))
   advances_at n c e ys f p cs low here out more may by is less acts words homes all k at small =
       let i : ℕ = count_at (cond_object c) in
       let r : ℕ = get_or words i 0 in
@@ -180,7 +180,7 @@ module _ {T H W : Type 0} (l : Layout) (traced : Bool) (w : W) (begin : W → �
       let known : p.count ≡ r = ((s.knows n p at).inside c spins.0).1 ∙ sym (s.counted c low) in
       let up : v ≡ r + 1 = omega arith in
       let wide = k.sizes.words_wide in
-      let after : List Event → Part T H = λ z. record (told p z e) { left = ys; count = p.count + 1; calling = None } in
+      let after : List Event → Part T H = λ z. record (recorded p z e) { left = ys; count = p.count + 1; calling = None } in
       let done = marks l traced w holds e n i v p after words homes all k (record k.spec { members = put k.spec.members c f }) at by (acts words homes all k at).0 may (count-aside c low)
       (λ z. record { version = refl; seen = refl; mine = refl; places = refl; held = refl; share = refl; spin = refl; queue = refl; owed = refl; stand = refl; pen = refl })
       (acts words homes all k at).1
@@ -197,19 +197,19 @@ module _ {T H W : Type 0} (l : Layout) (traced : Bool) (w : W) (begin : W → �
       (λ z. lives-frame all n p (after z) at words words' k.sizes.few (lives-stay words i v (λ j lo z. omega arith)) refl k.lives)
       (λ z. owes-frame k.queue words words' all n p (after z) at (λ j lo. other words i (bit_at j) v (λ z. omega arith)) refl refl refl k.owes)
       (λ z. begun-same words words' all n p (after z) at (waits-stay words i v (λ j lo y. omega arith)) refl refl refl k.begun) in
-      (done.0, keeps, tt, done.1, (sym known, subst Distinct (sym spins.1) (distinct-behind (k.owed (cond_object c)) (k.queue (cond_object c)) (k.lines.distinct (cond_object c))), done.2, refl))
+      (done.0, keeps, tt, done.1, (sym known, subst Distinct (sym spins.1) (distinct-tail_of (k.owed (cond_object c)) (k.queue (cond_object c)) (k.lines.distinct (cond_object c))), done.2, refl))
 
   advance_at : (leave : List ℕ → List ℕ) (action : ℕ → List ℕ → Action) (f : ℕ → Bool) (slots id c : ℕ) (me : Me (Slot T) (View T H W)) → c < 64 → me.0.kind ≡ Member → me.0.part.spin ≡ Some (cond_object c) → me.0.part.wait ≡ None → me.0.part.count < 18446744073709551615 → MayTell traced me.0.part.life me.0.part.pen
       → ((t : ℕ) → f t ≡ mem t (leave me.0.part.queue)) → ((t : ℕ) → mem t me.0.part.left ≡ false → mem t (leave me.0.part.queue) ≡ false)
       → ((words : List ℕ) (homes : List (Option (Slot T))) (all : List (Part T H)) (k : Core l traced w holds words homes all) → get_elem? all me.0.number ≡ some me.0.part → IsNamed l (action c (leave me.0.part.queue)) × Acts k.spec (event me.0.number (action c (leave me.0.part.queue))) (record k.spec { members = put k.spec.members c f }))
       → (i : ℕ) → i ≡ count_at (cond_object c) → Allows (IsKept l traced w begin holds) slots id me i (λ x. (x + 1) % 2 ^ 64) (advance_tells leave action (step slots i 1 0 none) me)
   advance_at leave action f slots id c me low kind here out more may is less acts i word = let v = me.0 in let n = v.number in let p = v.part in let o : ℕ = count_at (cond_object c) in let ys : List ℕ = leave p.queue in
-      let At : ℕ → Part T H → List (ℕ × Slot T) → Type 0 = λ r q ds. (r ≡ p.count) × Distinct p.queue × Learns (event n (action c ys)) n p (λ z. record (told p z (event n (action c ys))) { left = ys; count = p.count + 1; calling = None }) q × (ds ≡ me.1) in
+      let At : ℕ → Part T H → List (ℕ × Slot T) → Type 0 = λ r q ds. (r ≡ p.count) × Distinct p.queue × Learns (event n (action c ys)) n p (λ z. record (recorded p z (event n (action c ys))) { left = ys; count = p.count + 1; calling = None }) q × (ds ≡ me.1) in
       subst (λ (i : ℕ). Allows (IsKept l traced w begin holds) slots id me i (λ x. (x + 1) % 2 ^ 64) (advance_tells leave action (step slots i 1 0 none) me)) (sym word)
       (member_steps l traced w begin holds slots id o (λ x. (x + 1) % 2 ^ 64) v me.1 At (advance_tells leave action (step slots o 1 0 none) me) kind
       (λ r q ds t. idle-live p q v.child may.0 (ap (λ (z : Part T H). z.life) t.2.2))
       (λ r q ds world t c' is'. let ec : c ≡ c' = omega arith in
-      subst (λ (z : ℕ). (r ≡ p.count) × Distinct p.queue × (between : List Event) × Grows n p between (event n (action z ys)) × Becomes me (record (told p (p.seen ++ between) (event n (action z ys))) { left = ys; count = p.count + 1; calling = None }) (with_part v q, ds)) ec
+      subst (λ (z : ℕ). (r ≡ p.count) × Distinct p.queue × (between : List Event) × Grows n p between (event n (action z ys)) × Becomes me (record (recorded p (p.seen ++ between) (event n (action z ys))) { left = ys; count = p.count + 1; calling = None }) (with_part v q, ds)) ec
       (t.0, t.1, t.2.0, t.2.1, λ j. (with_part v (t.2.2 j), t.3 j)))
       (advances_at n c (event n (action c ys)) ys f p me.1 low here out more may refl is less acts))
 
@@ -219,16 +219,16 @@ module _ {T H W : Type 0} (l : Layout) (traced : Bool) (w : W) (begin : W → �
       (λ words homes all k at. (named, (record { live = k.shows.lives me.0.number me.0.part at ∙ may.0; order = k.shows.pendings.pends me.0.number me.0.part at ∙ ap pending_of out; requires_met = tt; when_met = tt; choice_met = tt }, refl))) i word
 
   pub advance_signal_keeps : (slots id c : ℕ) (me : Me (Slot T) (View T H W)) (i : ℕ) → i ≡ count_at (cond_object c) → c < 64 → c < l.conditions → me.0.kind ≡ Member → me.0.part.spin ≡ Some (cond_object c) → me.0.part.wait ≡ None → me.0.part.left ≡ me.0.part.queue → me.0.part.count < 18446744073709551615 → MayTell traced me.0.part.life me.0.part.pen
-      → Allows (IsKept l traced w begin holds) slots id me i (λ x. (x + 1) % 2 ^ 64) (advance_tells behind signal_action (step slots i 1 0 none) me)
-  advance_signal_keeps slots id c me i word low named kind here out even more may = let n = me.0.number in let p = me.0.part in let ys : List ℕ = behind p.queue in
-      advance_at behind signal_action (in_set (set_of ys)) slots id c me low kind here out more may (λ t. in_set-of t ys) (λ t off. less-behind t p.queue (ap (mem t) (sym even) ∙ off))
+      → Allows (IsKept l traced w begin holds) slots id me i (λ x. (x + 1) % 2 ^ 64) (advance_tells tail_of signal_action (step slots i 1 0 none) me)
+  advance_signal_keeps slots id c me i word low named kind here out even more may = let n = me.0.number in let p = me.0.part in let ys : List ℕ = tail_of p.queue in
+      advance_at tail_of signal_action (in_set (set_of ys)) slots id c me low kind here out more may (λ t. in_set-of t ys) (λ t off. less-tail_of t p.queue (ap (mem t) (sym even) ∙ off))
       (λ words homes all k at.
       let o : ℕ = cond_object c in
       let mine = (k.spins.spinning n p at o).0 here in
       let s = k.shows.conditions in
       let people : (t : ℕ) → in_set (set_of ys) t ≡ true → t < l.threads = λ t is.
-      let there : mem t (k.queue o) ≡ true = subst (λ (q : List ℕ). mem t q ≡ true) mine.1 (more-behind t p.queue (sym (in_set-of t ys) ∙ is)) in
-      subst (λ (z : ℕ). t < z) k.sizes.count (k.lines.people o t (mem-behind t (k.owed o) (k.queue o) there)) in (
+      let there : mem t (k.queue o) ≡ true = subst (λ (q : List ℕ). mem t q ≡ true) mine.1 (more-tail_of t p.queue (sym (in_set-of t ys) ∙ is)) in
+      subst (λ (z : ℕ). t < z) k.sizes.count (k.lines.people o t (mem-tail_of t (k.owed o) (k.queue o) there)) in (
         (named, people),
         (
           record {
@@ -236,7 +236,7 @@ module _ {T H W : Type 0} (l : Layout) (traced : Bool) (w : W) (begin : W → �
             order = k.shows.pendings.pends n p at ∙ ap pending_of out;
             requires_met = tt;
             when_met = tt;
-            choice_met = may-leave (k.spec.members c) p.queue (subst Distinct (sym mine.1) (distinct-behind (k.owed o) (k.queue o) (k.lines.distinct o)))
+            choice_met = may-leave (k.spec.members c) p.queue (subst Distinct (sym mine.1) (distinct-tail_of (k.owed o) (k.queue o) (k.lines.distinct o)))
                 (λ t there. s.member c t ∙ ap (λ b. cond b true (s.counting c t)) (ap (mem t) (sym ((s.knows n p at).inside c mine.0).0 ∙ even) ∙ there));
           },
           refl,

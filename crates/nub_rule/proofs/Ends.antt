@@ -168,7 +168,7 @@ module _ {T H W : Type 0} (l : Layout) (traced : Bool) (w : W) (begin : W → �
             versions = each-firsts (HasVersion l.version) (λ n. first_part l.version n (Some (begin w n))) l.threads (λ i low. refl);
           };
           run = refl;
-          told = record {
+          recorded = record {
             people = λ i e at. absurd (some-ne-none e (sym at));
             names = λ i e at. absurd (some-ne-none e (sym at));
             each = each-firsts (Chronicle []) (λ n. first_part l.version n (Some (begin w n))) l.threads (λ i low. record { begins = ([], refl); own = refl; placed = refl });
@@ -268,15 +268,15 @@ module _ {T H W : Type 0} (l : Layout) (traced : Bool) (w : W) (begin : W → �
           over = over-of l.version c.spec.life (λ two t is. ⊎_elim
               (λ (low : t < length r.all). let p = at_below r.all t low in (rest t p.0 p.1).2 two (sym (c.shows.lives t p.0 p.1) ∙ is))
               (λ (past : length r.all ≤ t). let count = c.sizes.count in
-              let people : Each (λ i e. e.thread.0 < l.threads) c.log = λ i e at. let low = c.told.people i e at in omega arith in
-              unborn-past l.version t two (λ z. omega arith) (sym (lives-past l t (omega arith) (at_first l.version) c.log c.spec people c.told.names c.run) ∙ is))
+              let people : Each (λ i e. e.thread.0 < l.threads) c.log = λ i e at. let low = c.recorded.people i e at in omega arith in
+              unborn-past l.version t two (λ z. omega arith) (sym (lives-past l t (omega arith) (at_first l.version) c.log c.spec people c.recorded.names c.run) ∙ is))
               (cases_lt t (length r.all)));
           nothing_held = λ m. c.shows.holders.free m (free m);
           nothing_begun = λ t. ⊎_elim
               (λ (low : t < length r.all). let p = at_below r.all t low in c.shows.pendings.pends t p.0 p.1 ∙ ap pending_of (rest t p.0 p.1).1)
               (λ (past : length r.all ≤ t). c.shows.pendings.strangers t past)
               (cases_lt t (length r.all));
-          history = c.told;
+          history = c.recorded;
           kept = c.owned.kept;
           each_share = c.owned.shares_wide;
           shared = c.owned.shared;
@@ -298,7 +298,7 @@ module _ {T : Type 0} where
       let s : y ≡ x = value_same y x (some-injective (Value (Some y)) (Value (Some x)) (sym here ∙ (ap (get_elem? slots) (sym there) ∙ at))) in ap (get_elem? zs) e ∙ (at_middle xs [] zs y is ∙ ap some s))
       (λ ne. ap (λ l. get_elem? l m) is ∙ at_longer xs (y ∷ []) m x (so_far m x (omega arith) at))
 
--- each place of so many zeros has one, and so has each place behind them
+-- each place of so many zeros has one, and so has each place after them
 all_alike : (z n k : ℕ) → get_or (replicate n z) k z ≡ z
 all_alike z zero k = refl
 all_alike z (suc n) zero = refl
@@ -342,8 +342,8 @@ emptied [] i = refl
 emptied (f ∷ fs) zero = refl
 emptied (f ∷ fs) (suc i) = emptied fs i
 
-pub full_behind : (fs gs : List Bool) (i m n : ℕ) → gs ≡ set fs i false → n ≡ m → Filled fs i m → Filled gs (i + 1) n
-full_behind fs gs i m n is same full k lo hi = ap (λ l. get_or l k false) is ∙ (get_or-set_other fs i k false false (λ e. omega arith) ∙ full k (omega arith) (omega arith))
+pub full_after : (fs gs : List Bool) (i m n : ℕ) → gs ≡ set fs i false → n ≡ m → Filled fs i m → Filled gs (i + 1) n
+full_after fs gs i m n is same full k lo hi = ap (λ l. get_or l k false) is ∙ (get_or-set_other fs i k false false (λ e. omega arith) ∙ full k (omega arith) (omega arith))
 
 pub empty_before : (fs gs : List Bool) (i : ℕ) → gs ≡ set fs i false → ((k : ℕ) → k < i → get_or fs k false ≡ false) → (k : ℕ) → k < i + 1 → get_or gs k false ≡ false
 empty_before fs gs i is empty k low = ap (λ l. get_or l k false) is ∙ ⊎_elim
@@ -407,6 +407,6 @@ module _ {T H : Type 0} where
       none_some x.1 (sym gone ∙ (ap (λ (k : ℕ). find k (x ∷ xs)) e ∙ here)))
       (cases_lt x.0 192))
 
--- one more behind a mapped list
+-- one more after a mapped list
 pub maps-more : {A B : Type 0} (f : A → B) (xs zs : List B) (ys : List A) (y : A) → xs ≡ map f ys → zs ≡ xs ++ f y ∷ [] → zs ≡ map f (ys ++ y ∷ [])
 maps-more f xs zs ys y e z = z ∙ ((λ i. e i ++ f y ∷ []) ∙ sym (map-append f ys (y ∷ [])))

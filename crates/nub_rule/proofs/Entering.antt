@@ -6,7 +6,7 @@ use Rattle.nub_rule.specs.declared.package.Entry.{Entry}
 use Rattle.nub_rule.specs.Known.{Known, known_as, IsThread, Makes}
 use Rattle.nub_rule.specs.Parts.{made}
 use Rattle.nub_rule.specs.Places.{value_at}
-use Rattle.nub_rule.specs.Plays.{Sat, Grows, told, with_part, begun_wait, enqueue_event}
+use Rattle.nub_rule.specs.Plays.{Sat, Grows, recorded, with_part, begun_wait, enqueue_event}
 use Rattle.nub_rule.specs.Slots.{find, IsDistinct, Below}
 use Rattle.nub_rule.proofs.Handling.{hands-same, values-same}
 use Rattle.nub_rule.proofs.Seen.{as_known, fit_moved}
@@ -21,12 +21,12 @@ module _ {T H W : Type 0} (alertable : Bool) (m o r : ℕ) where
 
   pub entered : (u : List Event) (z z' : TableId) (n : ℕ) (hand hand' : List ℕ) (me front me' : Sat T H W) {kept : List T} {room : ℕ} → IsThread z n hand me kept room → front.0 ≡ me.0 → keys front.1 ≡ hand' → IsDistinct front.1 → Below 256 front.1 → ((k : ℕ) → find k front.1 ≡ find k me.1) → z' ≡ z
       → Grows front.0.number front.0.part u (enqueue_event alertable front.0.number m o)
-      → me' ≡ (with_part front.0 (record (told front.0.part (front.0.part.seen ++ u) (enqueue_event alertable front.0.number m o)) { wait = Some (begun_wait alertable m o r) }), front.1)
+      → me' ≡ (with_part front.0 (record (recorded front.0.part (front.0.part.seen ++ u) (enqueue_event alertable front.0.number m o)) { wait = Some (begun_wait alertable m o r) }), front.1)
       → Entered z z' n hand' me me' kept room
   entered u z z' n hand hand' me front me' i same keyed distinct below found ez grows is =
       let h = i.hands in
       let p = me.0.part in
-      let now = is ∙ (λ j. (with_part (same j) (record (told (same j).part ((same j).part.seen ++ u) (enqueue_event alertable (same j).number m o)) { wait = Some (begun_wait alertable m o r) }), front.1)) in
+      let now = is ∙ (λ j. (with_part (same j) (record (recorded (same j).part ((same j).part.seen ++ u) (enqueue_event alertable (same j).number m o)) { wait = Some (begun_wait alertable m o r) }), front.1)) in
       let v = values-same me.1 front.1 (λ k. found (value_at k)) in record {
         fits = fit_moved z z' n hand hand' me me' _ front.1 ez now i keyed distinct below refl (hands-same p _ me.1 front.1 (λ k. found k) refl refl refl h.room h.settled h);
         makes = λ es lo nx a known. as_known (λ z m' a. Makes (enqueue_event alertable a.number m o) a (known_as z n m' es lo nx)) z z' n es lo me me' _ a known ez now

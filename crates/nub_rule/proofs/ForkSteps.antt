@@ -17,19 +17,19 @@ use Rattle.nub_rule.specs.declared.view.Child.TheVariants.{May, Forked}
 use Rattle.nub_rule.specs.declared.view.Part.{Part}
 use Rattle.nub_rule.specs.declared.view.View.{View}
 use Rattle.nub_rule.specs.declared.view.Kind.TheVariants.{Member}
-use Rattle.nub_rule.specs.Items.{Chronicle, Told, Pens, Core}
+use Rattle.nub_rule.specs.Items.{Chronicle, HistoryItem, Pens, Core}
 use Rattle.nub_rule.specs.Parts.{MayTell, newborn, unborn, pending_of}
 use Rattle.nub_rule.specs.Places.{most_threads, bit_at, life_at}
 use Rattle.atomic_table.specs.Seated.{TableId}
 use Rattle.nub_rule.specs.Known.{IsThread}
-use Rattle.nub_rule.specs.Plays.{Grows, Sat, told, with_part, fork_event, fork_life_tells}
+use Rattle.nub_rule.specs.Plays.{Grows, Sat, recorded, with_part, fork_event, fork_life_tells}
 use Rattle.nub_rule.specs.Rule.{ChildFits, FitsAs, SeatFits, IsKept, IsOfChild}
 use Rattle.nub_rule.proofs.Apart.{thread-of}
 use Rattle.nub_rule.proofs.Each.{at_within, each-set}
 use Rattle.nub_rule.proofs.Runs.{leads-snoc, run-of}
 use Rattle.nub_rule.proofs.Idle.{idle-live}
 use Rattle.nub_rule.proofs.Members.{others_fit, placed-set}
-use Rattle.nub_rule.proofs.Frames.{other, alert-seen-frame, alert-seen-stays, bits-stay, lines-frame, lives-frame, owned-frame, pen-stay, pens-frame, ready-stay, shown-stay, shows-frame, sizes-frame, spins-frame, spins-stay, told-event}
+use Rattle.nub_rule.proofs.Frames.{other, alert-seen-frame, alert-seen-stays, bits-stay, lines-frame, lives-frame, owned-frame, pen-stay, pens-frame, ready-stay, shown-stay, shows-frame, sizes-frame, spins-frame, spins-stay, recorded-event}
 use Rattle.nub_rule.proofs.Beginning.{waits-stay, begun-same}
 use Rattle.nub_rule.proofs.LifeSteps.{life-aside, lives-own, shows-life, two-of}
 use Rattle.nub_rule.proofs.Owing.{owes-frame}
@@ -37,8 +37,8 @@ use Rattle.nub_rule.proofs.Penning.{pens-event, numbered-by}
 
 module _ {T H : Type 0} (all : List (Part T H)) (t : ℕ) (p q : Part T H) (at : get_elem? all t ≡ some p) where
   -- a thread comes to know the whole history
-  told-known : (l : Layout) (log : List Event) → q.seen ≡ log → q.mine ≡ p.mine → q.places ≡ p.places → Told l log all → Told l log (set all t q)
-  told-known l log seen mine places h = let c = h.each t p at in record {
+  recorded-known : (l : Layout) (log : List Event) → q.seen ≡ log → q.mine ≡ p.mine → q.places ≡ p.places → HistoryItem l log all → HistoryItem l log (set all t q)
+  recorded-known l log seen mine places h = let c = h.each t p at in record {
     people = λ i e there. subst (λ (z : ℕ). e.thread.0 < z) (sym (length-set all t q)) (h.people i e there);
     names = h.names;
     each = each-set (Chronicle log) (Chronicle log) all t q record { begins = ([], sym (ap (λ l. l ++ []) seen ∙ append-nil log)); own = c.own ∙ sym mine; placed = c.placed ∙ sym places } (λ k r ne at' d. d) h.each;
@@ -50,7 +50,7 @@ module _ {T H W : Type 0} (l : Layout) (traced : Bool) (w : W) (holds : W → Li
   pub record Forks (n t : ℕ) (p : Part T H) (s : Opt H) (words : List ℕ) (homes : List (Option (Slot T))) (all : List (Part T H)) : Type 0 where
     pub between : List Event
     pub grows : Grows n p between (fork_event n t)
-    pub core : Core l traced w holds (set words (life_at t) 1) homes (set (set all n (told p (p.seen ++ between) (fork_event n t))) t (newborn l.version ((p.seen ++ between) ++ fork_event n t ∷ []) s))
+    pub core : Core l traced w holds (set words (life_at t) 1) homes (set (set all n (recorded p (p.seen ++ between) (fork_event n t))) t (newborn l.version ((p.seen ++ between) ++ fork_event n t ∷ []) s))
 
   forks-of : (n t : ℕ) (p : Part T H) (s : Opt H) (words : List ℕ) (homes : List (Option (Slot T))) (all : List (Part T H)) → Core l traced w holds words homes all → get_elem? all n ≡ some p → get_elem? all t ≡ some (unborn l.version s) → t ≢ n → p.wait ≡ None → MayTell traced p.life p.pen → Forks n t p s words homes all
   forks-of n t p s words homes all c at there ne out may =
@@ -63,9 +63,9 @@ module _ {T H W : Type 0} (l : Layout) (traced : Bool) (w : W) (holds : W → Li
       let low : t < most_threads = omega arith in
       let named : t < l.threads = omega arith in
       let aside = life-aside t low in
-      let seen = (c.told.each n p at).begins in
+      let seen = (c.recorded.each n p at).begins in
       let z : List Event = p.seen ++ seen.0 in
-      let q : Part T H = told p z e in
+      let q : Part T H = recorded p z e in
       let old : Part T H = unborn l.version s in
       let new : Part T H = newborn l.version (z ++ e ∷ []) s in
       let longer : q.seen ≡ c.log ++ e ∷ [] = ap (λ (y : List Event). y ++ e ∷ []) (sym seen.1) in
@@ -77,7 +77,7 @@ module _ {T H W : Type 0} (l : Layout) (traced : Bool) (w : W) (holds : W → Li
       let acts : Acts c.spec e spec' = (record { live = c.shows.lives n p at ∙ may.0; order = idle_now; requires_met = unborn_there; when_met = tt; choice_met = tt }, refl) in
       let run = leads-snoc (at_first l.version) c.log c.spec e spec' c.run acts in
       let all' : List (Part T H) = set all n q in
-      let told' : Told l (c.log ++ e ∷ []) all' = told-event all n p q at l c.log e refl (two, named) longer refl placed c.told in
+      let recorded' : HistoryItem l (c.log ++ e ∷ []) all' = recorded-event all n p q at l c.log e refl (two, named) longer refl placed c.recorded in
       let there' : get_elem? all' t ≡ some old = set_else all n t q ne ∙ there in
       let few' : length all' ≤ most_threads = subst (λ (y : ℕ). y ≤ most_threads) (sym (length-set all n q)) few in
       let words' : List ℕ = set words i 1 in
@@ -86,7 +86,7 @@ module _ {T H W : Type 0} (l : Layout) (traced : Bool) (w : W) (holds : W → Li
         between = seen.0;
         grows = record {
           legal = (spec', run-of l.version p.version (c.sizes.versions n p at) spec' (sym longer) run);
-          own = ap (by_thread n) longer ∙ (told'.each n q (set_here all n q (at_within all n p at))).own;
+          own = ap (by_thread n) longer ∙ (recorded'.each n q (set_here all n q (at_within all n p at))).own;
           number = λ k is. numbered-by traced (length c.log) words c.writer all n p q at c.pens k is ∙ ap (λ (y : List Event). length y) seen.1;
         };
         core = record {
@@ -101,7 +101,7 @@ module _ {T H W : Type 0} (l : Layout) (traced : Bool) (w : W) (holds : W → Li
           shares = c.shares;
           sizes = sizes-frame all' t old new there' l words' words' homes homes refl refl refl refl (sizes-frame all n p q at l words words' homes homes (length-set words i 1) refl refl refl c.sizes);
           run = run;
-          told = told-known all' t old new there' l (c.log ++ e ∷ []) longer refl refl told';
+          recorded = recorded-known all' t old new there' l (c.log ++ e ∷ []) longer refl refl recorded';
           owned = owned-frame all' t old new there' l (holds w) c.owner c.values c.shares words' words' homes homes c.sizes.lawful (λ m lo. refl) (λ m. refl) refl refl
               (owned-frame all n p q at l (holds w) c.owner c.values c.shares words words' homes homes c.sizes.lawful (bits-stay words i 1 aside.bits) (λ m. refl) refl refl c.owned);
           spins = spins-frame all' t old new there' c.spinner c.queue c.owed words' words' homes homes (λ o lo. (refl, refl)) (λ k lo. refl) refl refl refl
@@ -129,7 +129,7 @@ module _ {T H W : Type 0} (l : Layout) (traced : Bool) (w : W) (begin : W → �
       let low : t < most_threads = let few = r.core.sizes.few in let there = at_within r.all t (unborn l.version (Some (begin w t))) right.3 in omega arith in
       let f = forks-of l traced w holds n t p (Some (begin w t)) s.words s.homes r.all r.core own.own right.3 right.1 out may in
       let log : List Event = (p.seen ++ f.between) ++ fork_event n t ∷ [] in
-      let q : Part T H = told p (p.seen ++ f.between) (fork_event n t) in
+      let q : Part T H = recorded p (p.seen ++ f.between) (fork_event n t) in
       let new : Part T H = newborn l.version log (Some (begin w t)) in
       let v' : View T H W = record v { part = q; child = Forked t log } in
       let all' : List (Part T H) = set r.all n q in
@@ -154,7 +154,7 @@ module _ {T H W : Type 0} (l : Layout) (traced : Bool) (w : W) (begin : W → �
         },
         λ k few is. let same : t ≡ k = thread-of t k low few (omega arith) in
             subst (λ (k : ℕ). (k ≢ n) × (between : List Event) × Grows n p between (fork_event n k)
-            × ((let y : Me (Slot T) (View T H W) = (v', me.1) in y) ≡ (record v { part = told p (p.seen ++ between) (fork_event n k); child = Forked k ((p.seen ++ between) ++ fork_event n k ∷ []) }, me.1))) same (right.1, f.between, f.grows, refl),
+            × ((let y : Me (Slot T) (View T H W) = (v', me.1) in y) ≡ (record v { part = recorded p (p.seen ++ between) (fork_event n k); child = Forked k ((p.seen ++ between) ++ fork_event n k ∷ []) }, me.1))) same (right.1, f.between, f.grows, refl),
       )
 
   -- the same at a word that is this place

@@ -15,7 +15,7 @@ use Rattle.atomic_table.proofs.Lists.{set_else, set_here}
 use Rattle.nub_rule.specs.declared.rule.Slot.{Slot}
 use Rattle.nub_rule.specs.declared.view.Part.{Part}
 use Rattle.nub_rule.specs.declared.view.Pen.{Pen}
-use Rattle.nub_rule.specs.Items.{Each, Chronicle, Told, Owns, Current, Shared, Wide, Marks, Says, Owned, Spinning, Spins, Stands, Lines, Semaphores, Alerts, Holders, Pendings, Knows, Conditions, AlertSeen, HasVersion, Lives, Shows, PenFits, Pens, Sizes}
+use Rattle.nub_rule.specs.Items.{Each, Chronicle, HistoryItem, Owns, Current, Shared, Wide, Marks, Says, Owned, Spinning, Spins, Stands, Lines, Semaphores, Alerts, Holders, Pendings, Knows, Conditions, AlertSeen, HasVersion, Lives, Shows, PenFits, Pens, Sizes}
 use Rattle.nub_rule.specs.Parts.{waits_on, open_on, counts_in, number_of, pending_of, stands_at}
 use Rattle.nub_rule.specs.Places.{most_threads, bit_at, spin_at, length_at, count_at, alert_at, ready_at, life_at, pen_at, number_at, queue_at, value_at, sem_object, cond_object}
 use Rattle.nub_rule.proofs.Each.{each-set, each-snoc, same_at, at_within}
@@ -94,8 +94,8 @@ module _ {T H : Type 0} (all : List (Part T H)) (n : ℕ) (p q : Part T H) (at :
   }
 
   -- HISTORY reads what was seen, the own events and their places
-  pub told-frame : (l : Layout) (log : List Event) → q.seen ≡ p.seen → q.mine ≡ p.mine → q.places ≡ p.places → Told l log all → Told l log (set all n q)
-  told-frame l log seen mine places h = let c = h.each n p at in record {
+  pub recorded-frame : (l : Layout) (log : List Event) → q.seen ≡ p.seen → q.mine ≡ p.mine → q.places ≡ p.places → HistoryItem l log all → HistoryItem l log (set all n q)
+  recorded-frame l log seen mine places h = let c = h.each n p at in record {
     people = λ i e there. subst (λ (z : ℕ). e.thread.0 < z) (sym (length-set all n q)) (h.people i e there);
     names = h.names;
     each = each-set (Chronicle log) (Chronicle log) all n q record { begins = subst (StartsWith log) (sym seen) c.begins; own = c.own ∙ sym mine; placed = c.placed ∙ sym places } (λ k r ne at' d. d) h.each;
@@ -106,8 +106,8 @@ module _ {T H : Type 0} (all : List (Part T H)) (n : ℕ) (p q : Part T H) (at :
   }
 
   -- an event of the thread n
-  pub told-event : (l : Layout) (log : List Event) (e : Event) → e.thread.0 ≡ n → IsNamed l e.action → q.seen ≡ log ++ e ∷ [] → q.mine ≡ p.mine ++ e ∷ [] → q.places ≡ p.places ++ length log ∷ [] → Told l log all → Told l (log ++ e ∷ []) (set all n q)
-  told-event l log e by named seen mine places h = let c = h.each n p at in record {
+  pub recorded-event : (l : Layout) (log : List Event) (e : Event) → e.thread.0 ≡ n → IsNamed l e.action → q.seen ≡ log ++ e ∷ [] → q.mine ≡ p.mine ++ e ∷ [] → q.places ≡ p.places ++ length log ∷ [] → HistoryItem l log all → HistoryItem l (log ++ e ∷ []) (set all n q)
+  recorded-event l log e by named seen mine places h = let c = h.each n p at in record {
     people = each-snoc (λ i f. f.thread.0 < length (set all n q)) log (log ++ e ∷ []) (length log) e refl refl (let a = at_within all n p at in let b = length-set all n q in omega (arith, by))
         (λ i f there. subst (λ (z : ℕ). f.thread.0 < z) (sym (length-set all n q)) (h.people i f there));
     names = each-snoc (λ i f. IsNamed l f.action) log (log ++ e ∷ []) (length log) e refl refl named h.names;

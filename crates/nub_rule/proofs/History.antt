@@ -39,9 +39,9 @@ by_thread-append t (x ∷ xs) ys = elim (eqb x.thread.0 t) as (λ b. cond b (x �
     [ true ↦ ap (λ l. x ∷ l) (by_thread-append t xs ys) | false ↦ by_thread-append t xs ys ]
 
 -- what follows the same front is the same
-behind-same : (xs ys zs : List Event) → xs ++ ys ≡ xs ++ zs → ys ≡ zs
-behind-same [] ys zs e = e
-behind-same (x ∷ xs) ys zs e = behind-same xs ys zs (let f : xs ++ ys ≡ xs ++ zs = cc in f)
+tail_of-same : (xs ys zs : List Event) → xs ++ ys ≡ xs ++ zs → ys ≡ zs
+tail_of-same [] ys zs e = e
+tail_of-same (x ∷ xs) ys zs e = tail_of-same xs ys zs (let f : xs ++ ys ≡ xs ++ zs = cc in f)
 
 nothing : (x : Event) (xs : List Event) → x ∷ xs ≡ [] → ⊥
 nothing x xs e = let f = ap length e in absurd (omega arith)
@@ -54,9 +54,9 @@ only-by (e ∷ zs) n many low none = dite (ℕ_discrete e.thread.0 n)
     ∙ ap (λ l. e ∷ l) (only-by zs n many (λ i f at. low (suc i) f at) (λ j lo ne. sym (ap (λ b. cond b (e ∷ by_thread j zs) (by_thread j zs)) (ne_eqb e.thread.0 j (λ x. ne (sym x ∙ is)))) ∙ none j lo ne)))
     (λ ne. let t = e.thread.0 in absurd (nothing e (by_thread t zs) (sym (ap (λ b. cond b (e ∷ by_thread t zs) (by_thread t zs)) (eq-eqb t t refl)) ∙ none t (low 0 e refl) ne)))
 
-at-behind : (xs ys : List Event) (i : ℕ) → get_elem? (xs ++ ys) (length xs + i) ≡ get_elem? ys i
-at-behind [] ys i = ap (get_elem? ys) (let z : 0 + i ≡ i = omega arith in z)
-at-behind (x ∷ xs) ys i = ap (get_elem? (x ∷ xs ++ ys)) (let z : suc (length xs) + i ≡ suc (length xs + i) = omega arith in z) ∙ at-behind xs ys i
+at-tail_of : (xs ys : List Event) (i : ℕ) → get_elem? (xs ++ ys) (length xs + i) ≡ get_elem? ys i
+at-tail_of [] ys i = ap (get_elem? ys) (let z : 0 + i ≡ i = omega arith in z)
+at-tail_of (x ∷ xs) ys i = ap (get_elem? (x ∷ xs ++ ys)) (let z : suc (length xs) + i ≡ suc (length xs + i) = omega arith in z) ∙ at-tail_of xs ys i
 
 module _ {T H : Type 0} where
   -- whoever has seen what some thread has, has the whole of a history that is the longest
@@ -78,11 +78,11 @@ module _ {T H : Type 0} where
       (o.2.seen.0 ++ own.0, own.1 ∙ (ap (λ (l : List Event). l ++ own.0) (o.2.seen.1 ∙ ap (λ (z : Part T H). z.seen ++ o.2.seen.0) same) ∙ append_assoc r.seen o.2.seen.0 own.0)))) h in
       let zs = grown.0 in
       let others : (j : ℕ) → j < length views → j ≢ n → by_thread j zs ≡ [] = λ j low ne. let v = view j low in let o = s.others j v.0 v.1 ne in
-      behind-same (by_thread j log) (by_thread j zs) [] (sym (by_thread-append j log zs) ∙ (ap (by_thread j) (sym grown.1) ∙ (h'.own j v.0 v.1 ∙ (o.2.mine ∙ (sym (h.own j o.0 o.1) ∙ sym (append-nil (by_thread j log))))))) in
+      tail_of-same (by_thread j log) (by_thread j zs) [] (sym (by_thread-append j log zs) ∙ (ap (by_thread j) (sym grown.1) ∙ (h'.own j v.0 v.1 ∙ (o.2.mine ∙ (sym (h.own j o.0 o.1) ∙ sym (append-nil (by_thread j log))))))) in
       let own : by_thread n zs ≡ es =
-      behind-same (by_thread n log) (by_thread n zs) es (sym (by_thread-append n log zs) ∙ (ap (by_thread n) (sym grown.1) ∙ (h'.own n q s.after ∙ (s.mine ∙ ap (λ (l : List Event). l ++ es) (sym (h.own n p s.before)))))) in
+      tail_of-same (by_thread n log) (by_thread n zs) es (sym (by_thread-append n log zs) ∙ (ap (by_thread n) (sym grown.1) ∙ (h'.own n q s.after ∙ (s.mine ∙ ap (λ (l : List Event). l ++ es) (sym (h.own n p s.before)))))) in
       let people : Each (λ i e. e.thread.0 < length views) zs = λ i e there. subst (λ (z : ℕ). e.thread.0 < z) s.count
-      (h'.people (length log + i) e (ap (λ (l : List Event). get_elem? l (length log + i)) grown.1 ∙ (at-behind log zs i ∙ there))) in
+      (h'.people (length log + i) e (ap (λ (l : List Event). get_elem? l (length log + i)) grown.1 ∙ (at-tail_of log zs i ∙ there))) in
       grown.1 ∙ ap (λ (l : List Event). log ++ l) (sym (only-by zs n (length views) people others) ∙ own)
     where
       view : (j : ℕ) → j < length views → (r : Part T H) × (get_elem? views' j ≡ some r)

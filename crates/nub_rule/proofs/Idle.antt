@@ -18,7 +18,7 @@ use Rattle.nub_rule.specs.declared.view.Pen.{Pen}
 use Rattle.nub_rule.specs.declared.view.Stand.{Stand}
 use Rattle.nub_rule.specs.declared.view.Wait.{Wait}
 use Rattle.nub_rule.specs.Parts.{HasNothing, alerted_stand, fresh}
-use Rattle.nub_rule.specs.Plays.{told}
+use Rattle.nub_rule.specs.Plays.{recorded}
 use Rattle.nub_rule.specs.Rule.{HasNothingUnlessLive}
 use Rattle.nub_rule.proofs.Ends.{none-got}
 use Rattle.nub_rule.proofs.Lines.{false_true, some_none}
@@ -135,7 +135,7 @@ module _ {T H : Type 0} (p q : Part T H) (child : Child) where
   ))
 
   -- the thread ended, and had nothing
-  pub idle-ended : (log : List Event) (e : Event) → q ≡ record (told p log e) { life = Ended } → HasNothing p → child ≡ No → HasNothingUnlessLive q child
+  pub idle-ended : (log : List Event) (e : Event) → q ≡ record (recorded p log e) { life = Ended } → HasNothing p → child ≡ No → HasNothingUnlessLive q child
   idle-ended log e is n alone = subst (λ (z : Part T H). HasNothingUnlessLive z child) (sym is) (λ _. (
     record {
       none = n.none;

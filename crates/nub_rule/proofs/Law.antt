@@ -37,7 +37,7 @@ use Rattle.nub_rule.specs.PackageRule.{AnyView, HasBitInWait, IsFlagOf, IsKnown,
 use Rattle.nub_rule.proofs.Each.{at_below, put-at, put-else, same_at}
 use Rattle.nub_rule.proofs.Owing.{bound-nowhere, bound-asleep}
 use Rattle.nub_rule.proofs.Beginning.{counts-some, raisers-none, raisers-some}
-use Rattle.nub_rule.proofs.Lines.{both_ways, distinct-apart, distinct-behind, eqb_is, false_true, mem-append, mem-behind, not_true, stand_none, stand_same, stand_some}
+use Rattle.nub_rule.proofs.Lines.{both_ways, distinct-apart, distinct-tail_of, eqb_is, false_true, mem-append, mem-tail_of, not_true, stand_none, stand_same, stand_some}
 
 -- who has something is nobody or somebody
 pub whose : {A : Type 0} (o : Option ℕ) → (o ≡ none → A) → ((n : ℕ) → o ≡ some n → A) → A
@@ -128,11 +128,11 @@ module _ {T H : Type 0} where
 module _ {T H W : Type 0} (l : Layout) (traced : Bool) (w : W) (holds : W → List T → List H → Type 0) (words : List ℕ) (homes : List (Option (Slot T))) (all : List (Part T H)) (c : Core l traced w holds words homes all) where
   history : History l c.log all
   history = record {
-    begins = λ n p at. (c.told.each n p at).begins;
-    longest = c.told.longest;
-    own = λ n p at. (c.told.each n p at).own;
-    people = c.told.people;
-    names = c.told.names;
+    begins = λ n p at. (c.recorded.each n p at).begins;
+    longest = c.recorded.longest;
+    own = λ n p at. (c.recorded.each n p at).own;
+    people = c.recorded.people;
+    names = c.recorded.names;
   }
 
   -- who has the spin word of an object has its queue in its view, and those whom it owes
@@ -148,7 +148,7 @@ module _ {T H W : Type 0} (l : Layout) (traced : Bool) (w : W) (holds : W → Li
   in-line o n p at there = (c.lines.stands n p at).lined o there
 
   queued : (o n : ℕ) (p : Part T H) → get_elem? all n ≡ some p → mem n (c.queue o) ≡ true → (stands_at p.stand o ≡ true) × (get_or words (ready_at n) 0 ≡ 0)
-  queued o n p at there = in-line o n p at (mem-behind n (c.owed o) (c.queue o) there)
+  queued o n p at there = in-line o n p at (mem-tail_of n (c.owed o) (c.queue o) there)
 
   owed : (o k n : ℕ) (q p : Part T H) → get_elem? all k ≡ some q → get_elem? all n ≡ some p → OwesAt o q n → (stands_at p.stand o ≡ true) × (get_or words (ready_at n) 0 ≡ 0)
   owed o k n q p at' at owes = in-line o n p at (mem-append n (c.owed o) (c.queue o) (owed-line o k n q at' owes).1)
@@ -172,7 +172,7 @@ module _ {T H W : Type 0} (l : Layout) (traced : Bool) (w : W) (holds : W → Li
       (λ n e. let v = spins-at o n e in inl (n, v.0, v.1, (v.2, has n v.0 v.1 e)))
 
   out-of-all : (d n : ℕ) → length all ≤ n → c.spec.members d n ≡ false
-  out-of-all = strangers-out (length all) (at_first l.version) c.spec c.log c.run c.told.people (λ _ _ _. refl)
+  out-of-all = strangers-out (length all) (at_first l.version) c.spec c.log c.run c.recorded.people (λ _ _ _. refl)
 
   members : (d n : ℕ) → d < 64 → (c.spec.members d n ≡ true) ↔ ((mem n (c.shows.conditions.left d) ≡ true) ⊎ ((p : Part T H) × (get_elem? all n ≡ some p) × (counts_in p.wait d (get_or words (count_at (cond_object d)) 0) ≡ true)))
   members d n low =
@@ -216,8 +216,8 @@ module _ {T H W : Type 0} (l : Layout) (traced : Bool) (w : W) (holds : W → Li
   spin_words = record {
     spin = λ o low. flag-of all (get_or words (spin_at o) 0) (c.spinner o) (λ p. p.spin ≡ Some o) (c.spins.spin o low) (c.spins.within o) (λ n p at. let t = c.spins.spinning n p at o in ((λ is. (t.0 is).0), t.1));
     queue_known = λ o low. known (λ p. p.queue) o (c.queue o) low (λ n p at is. let t = c.spins.spinning n p at o in (t.0 (t.1 is)).1) (λ _. refl);
-    distinct = λ o. distinct-behind (c.owed o) (c.queue o) (c.lines.distinct o);
-    threads = λ o t there. c.lines.people o t (mem-behind t (c.owed o) (c.queue o) there);
+    distinct = λ o. distinct-tail_of (c.owed o) (c.queue o) (c.lines.distinct o);
+    threads = λ o t there. c.lines.people o t (mem-tail_of t (c.owed o) (c.queue o) there);
     length_word = c.spins.measured;
   }
 
@@ -314,7 +314,7 @@ module _ {T H W : Type 0} (l : Layout) (traced : Bool) (w : W) (holds : W → Li
     covers = λ d n low is. let o : ℕ = cond_object d in ⊎_elim
         (λ (there : mem n (c.shows.conditions.left d) ≡ true).
         let inside : mem n (c.queue o) ≡ true = either (mem n (c.queue o)) (λ e. e) (λ off. both_ways (mem n (c.shows.conditions.left d)) there (c.shows.conditions.queued d n off)) in
-        let lined = mem-behind n (c.owed o) (c.queue o) inside in
+        let lined = mem-tail_of n (c.owed o) (c.queue o) inside in
         let v = at_below all n (c.lines.people o n lined) in
         let st = stand_some v.0.stand o (in-line o n v.0 v.1 lined).0 in (v.0, v.1, ((c.begun.covered n v.0 v.1).stander st.0 d st.1 st.2).0))
         (λ (t : (p : Part T H) × (get_elem? all n ≡ some p) × (counts_in p.wait d (get_or words (count_at (cond_object d)) 0) ≡ true)).
@@ -340,7 +340,7 @@ module _ {T H W : Type 0} (l : Layout) (traced : Bool) (w : W) (holds : W → Li
     free = λ traces zero. c.pens.free traces (⊎_elim (λ (t : (get_or words pen_at 0 ≡ 0) × (c.writer ≡ none)). t.1) (λ (t : (get_or words pen_at 0 ≡ 1) × ((n : ℕ) × (c.writer ≡ some n))). absurd (one-zero (get_or words pen_at 0) zero t.0)) c.pens.flag);
     read = λ n p at k is. let f = subst (PenFits (length c.log) (get_or words number_at 0) c.writer n) is (c.pens.pens n p at) in f.2 ∙ f.1;
     made = λ n p at k is. let f = subst (PenFits (length c.log) (get_or words number_at 0) c.writer n) is (c.pens.pens n p at) in f.1;
-    places = λ n p at. (c.told.each n p at).placed;
+    places = λ n p at. (c.recorded.each n p at).placed;
   }
 
   pub rule-of : Each (λ n p. p.life ≢ Live → HasNothing p) all → PackageRule l traced (holds w) words homes all

@@ -1,7 +1,7 @@
--- The threads behind the first of a queue, gathered from the last on.
+-- The threads after the first of a queue, gathered from the last on.
 use Rattle.std.proofs.Common.{◌≡◌, ℕ, zero, suc, ◌+◌, ◌<◌, ◌≤◌, List, [], ◌∷◌, length, get_or, refl, sym, ap, ◌∙◌, arith}
 use Rattle.nub_rule.specs.Items.{Small}
-use Rattle.nub_rule.specs.Plays.{behind}
+use Rattle.nub_rule.specs.Plays.{tail_of}
 
 -- the list less its first n
 abbrev pub dropped : ℕ → List ℕ → List ℕ
@@ -26,11 +26,11 @@ small-at k n [] s h = absurd (omega arith)
 small-at k zero (x ∷ xs) s h = s.0
 small-at k (suc n) (x ∷ xs) s h = small-at k n xs s.1 (omega arith)
 
-pub behind-dropped : (n : ℕ) (xs : List ℕ) → n ≤ 1 → n ≤ length xs → (n ≡ 0 → xs ≡ []) → dropped n xs ≡ behind xs
-behind-dropped zero xs lo hi none_there = let e = none_there refl in e ∙ ap behind (sym e)
-behind-dropped (suc zero) [] lo hi h = refl
-behind-dropped (suc zero) (x ∷ xs) lo hi h = refl
-behind-dropped (suc (suc n)) xs lo hi h = absurd (omega arith)
+pub tail_of-dropped : (n : ℕ) (xs : List ℕ) → n ≤ 1 → n ≤ length xs → (n ≡ 0 → xs ≡ []) → dropped n xs ≡ tail_of xs
+tail_of-dropped zero xs lo hi none_there = let e = none_there refl in e ∙ ap tail_of (sym e)
+tail_of-dropped (suc zero) [] lo hi h = refl
+tail_of-dropped (suc zero) (x ∷ xs) lo hi h = refl
+tail_of-dropped (suc (suc n)) xs lo hi h = absurd (omega arith)
 
 pub nil-of : (l : List ℕ) → length l ≡ 0 → l ≡ []
 nil-of [] e = refl

@@ -8,7 +8,7 @@ use Rattle.arrayvec.specs.ArrayVec.{ArrayVec}
 use Rattle.nub_rule.specs.declared.rule.Slot.{Slot}
 use Rattle.nub_rule.specs.declared.rule.Slot.TheVariants.{Queue}
 use Rattle.nub_rule.specs.Items.{queue_of}
-use Rattle.nub_rule.specs.Plays.{behind, front, less}
+use Rattle.nub_rule.specs.Plays.{tail_of, front, less}
 use Rattle.nub_rule.proofs.Lines.{both_ways}
 
 pub some_is : (i j : ℕ) → Some i ≡ Some j → i ≡ j
@@ -49,9 +49,9 @@ length-less t (x ∷ xs) = dite (ℕ_discrete x t)
     (λ e. let f : length (less t (x ∷ xs)) ≡ length xs = ap (λ b. length (cond b xs (x ∷ less t xs))) (eq-eqb x t e) in omega arith)
     (λ apart. let f : length (less t (x ∷ xs)) ≡ length (x ∷ less t xs) = ap (λ b. length (cond b xs (x ∷ less t xs))) (ne_eqb x t apart) in let r = length-less t xs in omega arith)
 
-pub length-behind : (xs : List ℕ) → length (behind xs) ≤ length xs
-length-behind [] = omega arith
-length-behind (x ∷ xs) = omega arith
+pub length-tail_of : (xs : List ℕ) → length (tail_of xs) ≤ length xs
+length-tail_of [] = omega arith
+length-tail_of (x ∷ xs) = omega arith
 
 pub shorter-less : (t : ℕ) (xs : List ℕ) → mem t xs ≡ true → length (less t xs) < length xs
 shorter-less t [] there = let f : false ≡ true = there in absurd cc
@@ -59,7 +59,7 @@ shorter-less t (x ∷ xs) there = dite (ℕ_discrete x t)
     (λ e. let f : length (less t (x ∷ xs)) ≡ length xs = ap (λ b. length (cond b xs (x ∷ less t xs))) (eq-eqb x t e) in omega arith)
     (λ apart. let f : length (less t (x ∷ xs)) ≡ length (x ∷ less t xs) = ap (λ b. length (cond b xs (x ∷ less t xs))) (ne_eqb x t apart) in let r = shorter-less t xs (sym (mem-else t x xs apart) ∙ there) in omega arith)
 
-pub front-of : (xs : List ℕ) (t : ℕ) → xs ≡ t ∷ behind xs → front xs ≡ t ∷ []
+pub front-of : (xs : List ℕ) (t : ℕ) → xs ≡ t ∷ tail_of xs → front xs ≡ t ∷ []
 front-of [] t e = absurd cc
 front-of (x ∷ xs) t e = let f : x ≡ t = cc in ap (λ (z : ℕ). z ∷ []) f
 

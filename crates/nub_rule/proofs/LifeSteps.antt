@@ -25,7 +25,7 @@ use Rattle.nub_rule.specs.declared.view.Kind.TheVariants.{Member}
 use Rattle.nub_rule.specs.Items.{Each, Lives, Shows, Core}
 use Rattle.nub_rule.specs.Parts.{Got, HasNothing, MayTell, number_of, pending_of, waits_on}
 use Rattle.nub_rule.specs.Places.{most_threads, alert_at, bit_at, count_at, life_at, cond_object, sem_object, waits_at}
-use Rattle.nub_rule.specs.Plays.{Becomes, Grows, told, with_part, end_event, join_event, end_life_tells, read_life_tells}
+use Rattle.nub_rule.specs.Plays.{Becomes, Grows, recorded, with_part, end_event, join_event, end_life_tells, read_life_tells}
 use Rattle.nub_rule.specs.Rule.{IsKept}
 use Rattle.nub_rule.proofs.Apart.{thread-of}
 use Rattle.nub_rule.proofs.Each.{at_below, at_within, each-set, put-here, put-else, same_at}
@@ -80,7 +80,7 @@ module _ {T H W : Type 0} (l : Layout) (traced : Bool) (w : W) (holds : W → Li
   two-of t out = by l.version refl
     where
       by : (v : Version) → l.version ≡ v → l.version ≡ Two
-      by One e = absurd (out (ap (λ (f : ℕ → Life). f t) (lives-stay-on l (at_first l.version) c.spec c.log e c.told.names c.run) ∙ ap (λ (v : Version). lives_at_first v t) e))
+      by One e = absurd (out (ap (λ (f : ℕ → Life). f t) (lives-stay-on l (at_first l.version) c.spec c.log e c.recorded.names c.run) ∙ ap (λ (v : Version). lives_at_first v t) e))
       by Two e = e
 
   -- who has no mutex holds none
@@ -93,7 +93,7 @@ module _ {T H W : Type 0} (l : Layout) (traced : Bool) (w : W) (holds : W → Li
 module _ {T H W : Type 0} (l : Layout) (traced : Bool) (w : W) (begin : W → ℕ → H) (holds : W → List T → List H → Type 0) where
   -- the view after the end
   abbrev ended : ℕ → Part T H → List Event → Part T H
-  ended n p z = record (told p z (end_event n)) { life = Ended }
+  ended n p z = record (recorded p z (end_event n)) { life = Ended }
 
   ends_at : (n : ℕ) (p : Part T H) (cs : List (ℕ × Slot T)) → l.version ≡ Two → ((m : ℕ) (x : T) → ¬ Got p m x) → p.wait ≡ None → MayTell traced p.life p.pen
       → Steps l traced w begin holds n (life_at n) (λ _. 2) p cs (λ r q ds. Learns (end_event n) n p (ended n p) q × (ds ≡ cs))
@@ -130,7 +130,7 @@ module _ {T H W : Type 0} (l : Layout) (traced : Bool) (w : W) (begin : W → �
   end_life_keeps slots id me i word two kind nothing alone may = subst (λ (i : ℕ). Allows (IsKept l traced w begin holds) slots id me i (λ _. 2) (λ _. end_life_tells (step slots i 2 0 none) me 2)) (sym word) (end_life_at slots id me two kind nothing alone may)
 
   reads_at : (n t : ℕ) (p : Part T H) (cs : List (ℕ × Slot T)) → t < l.threads → p.wait ≡ None → MayTell traced p.life p.pen
-      → Steps l traced w begin holds n (life_at t) (λ x. x) p cs (λ r q ds. ((r ≡ 2) × Learns (join_event n t) n p (λ z. told p z (join_event n t)) q × (ds ≡ cs)) ⊎ ((r ≢ 2) × (q ≡ p) × (ds ≡ cs)))
+      → Steps l traced w begin holds n (life_at t) (λ x. x) p cs (λ r q ds. ((r ≡ 2) × Learns (join_event n t) n p (λ z. recorded p z (join_event n t)) q × (ds ≡ cs)) ⊎ ((r ≢ 2) × (q ≡ p) × (ds ≡ cs)))
   reads_at n t p cs named out may words homes all k at small =
       let i : ℕ = life_at t in
       let r : ℕ = get_or words i 0 in
@@ -145,14 +145,14 @@ module _ {T H W : Type 0} (l : Layout) (traced : Bool) (w : W) (begin : W → �
       let there = at_below all t (omega arith) in
       let ended_there : k.spec.life t ≡ Ended = k.shows.lives t there.0 there.1 ∙ ended-of there.0.life (sym (k.lives t there.0 there.1) ∙ hit) in
       let two : l.version ≡ Two = two-of l traced w holds words homes all k t (λ f. let z : Ended ≡ Live = sym ended_there ∙ f in cc) in
-      let done = marks l traced w holds e n i r p (λ z. told p z e) words homes all k k.spec at refl (two, named) may (life-aside t low)
+      let done = marks l traced w holds e n i r p (λ z. recorded p z e) words homes all k k.spec at refl (two, named) may (life-aside t low)
       (λ z. record { version = refl; seen = refl; mine = refl; places = refl; held = refl; share = refl; spin = refl; queue = refl; owed = refl; stand = refl; pen = refl })
       (record { live = k.shows.lives n p at ∙ may.0; order = idle_now; requires_met = tt; when_met = ended_there; choice_met = tt }, refl)
-      (λ z. shows-frame all n p (told p z e) at k.spinner k.queue k.owner k.spec words words' (record { counts = λ j lo. stay (count_at (cond_object j)); sems = λ j lo. stay (bit_at (sem_object j)); alerts = λ j lo. stay (alert_at j) }) refl refl refl refl refl k.shows)
-      (λ z. alert-seen-frame all n p (told p z e) at words words' few (λ j lo. stay (alert_at j)) refl k.alert_seen)
-      (λ z. lives-frame all n p (told p z e) at words words' few (λ j lo. stay (life_at j)) refl k.lives)
-      (λ z. owes-frame k.queue words words' all n p (told p z e) at (λ j lo. stay (bit_at j)) refl refl refl k.owes)
-      (λ z. begun-same words words' all n p (told p z e) at (λ j lo. stay (waits_at (cond_object j))) refl refl refl k.begun) in
+      (λ z. shows-frame all n p (recorded p z e) at k.spinner k.queue k.owner k.spec words words' (record { counts = λ j lo. stay (count_at (cond_object j)); sems = λ j lo. stay (bit_at (sem_object j)); alerts = λ j lo. stay (alert_at j) }) refl refl refl refl refl k.shows)
+      (λ z. alert-seen-frame all n p (recorded p z e) at words words' few (λ j lo. stay (alert_at j)) refl k.alert_seen)
+      (λ z. lives-frame all n p (recorded p z e) at words words' few (λ j lo. stay (life_at j)) refl k.lives)
+      (λ z. owes-frame k.queue words words' all n p (recorded p z e) at (λ j lo. stay (bit_at j)) refl refl refl k.owes)
+      (λ z. begun-same words words' all n p (recorded p z e) at (λ j lo. stay (waits_at (cond_object j))) refl refl refl k.begun) in
       (done.0, keeps, tt, done.1, inl (hit, done.2, refl)))
       (λ miss. (p, keeps, tt, idle l traced w holds words homes all i n p at k, inr (miss, refl, refl)))
 
@@ -160,12 +160,12 @@ module _ {T H W : Type 0} (l : Layout) (traced : Bool) (w : W) (begin : W → �
       → Allows (IsKept l traced w begin holds) slots id me (life_at t) (λ x. x) (read_life_tells (step slots (life_at t) 0 0 none) me)
   read_life_at slots id t me low named kind out may = let v = me.0 in let n = v.number in let p = v.part in let e = join_event n t in
       member_steps l traced w begin holds slots id (life_at t) (λ x. x) v me.1
-      (λ r q ds. ((r ≡ 2) × Learns e n p (λ z. told p z e) q × (ds ≡ me.1)) ⊎ ((r ≢ 2) × (q ≡ p) × (ds ≡ me.1))) (read_life_tells (step slots (life_at t) 0 0 none) me) kind
-      (λ r q ds u. idle-live p q v.child may.0 (⊎_elim (λ (y : (r ≡ 2) × Learns e n p (λ z. told p z e) q × (ds ≡ me.1)). ap (λ (z : Part T H). z.life) y.1.2) (λ (y : (r ≢ 2) × (q ≡ p) × (ds ≡ me.1)). ap (λ (z : Part T H). z.life) y.1) u))
+      (λ r q ds. ((r ≡ 2) × Learns e n p (λ z. recorded p z e) q × (ds ≡ me.1)) ⊎ ((r ≢ 2) × (q ≡ p) × (ds ≡ me.1))) (read_life_tells (step slots (life_at t) 0 0 none) me) kind
+      (λ r q ds u. idle-live p q v.child may.0 (⊎_elim (λ (y : (r ≡ 2) × Learns e n p (λ z. recorded p z e) q × (ds ≡ me.1)). ap (λ (z : Part T H). z.life) y.1.2) (λ (y : (r ≢ 2) × (q ≡ p) × (ds ≡ me.1)). ap (λ (z : Part T H). z.life) y.1) u))
       (λ r q ds world u k few is. let same : t ≡ k = thread-of t k low few (omega arith) in
-      subst (λ (k : ℕ). (r ≡ 2 → (between : List Event) × Grows n p between (join_event n k) × Becomes me (told p (p.seen ++ between) (join_event n k)) (with_part v q, ds)) × (r ≢ 2 → (let z : Me (Slot T) (View T H W) = (with_part v q, ds) in z) ≡ me)) same
+      subst (λ (k : ℕ). (r ≡ 2 → (between : List Event) × Grows n p between (join_event n k) × Becomes me (recorded p (p.seen ++ between) (join_event n k)) (with_part v q, ds)) × (r ≢ 2 → (let z : Me (Slot T) (View T H W) = (with_part v q, ds) in z) ≡ me)) same
       (⊎_elim
-      (λ (u : (r ≡ 2) × Learns e n p (λ z. told p z e) q × (ds ≡ me.1)). ((λ _. (u.1.0, u.1.1, λ j. (with_part v (u.1.2 j), u.2 j))), λ miss. absurd (miss u.0)))
+      (λ (u : (r ≡ 2) × Learns e n p (λ z. recorded p z e) q × (ds ≡ me.1)). ((λ _. (u.1.0, u.1.1, λ j. (with_part v (u.1.2 j), u.2 j))), λ miss. absurd (miss u.0)))
       (λ (u : (r ≢ 2) × (q ≡ p) × (ds ≡ me.1)). ((λ hit. absurd (u.0 hit)), λ _ j. (with_part v (u.1 j), u.2 j))) u))
       (reads_at n t p me.1 named out may)
 

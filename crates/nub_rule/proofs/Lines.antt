@@ -95,22 +95,22 @@ mem-append t (x ∷ xs) ys e = dite (ℕ_discrete x t)
     (λ z. mem-here t x (xs ++ ys) z)
     (λ ne. mem-else t x (xs ++ ys) ne ∙ mem-append t xs ys (sym (mem-else t x xs ne) ∙ e))
 
-pub mem-behind : (t : ℕ) (xs ys : List ℕ) → mem t ys ≡ true → mem t (xs ++ ys) ≡ true
-mem-behind t [] ys e = e
-mem-behind t (x ∷ xs) ys e = dite (ℕ_discrete x t)
+pub mem-tail_of : (t : ℕ) (xs ys : List ℕ) → mem t ys ≡ true → mem t (xs ++ ys) ≡ true
+mem-tail_of t [] ys e = e
+mem-tail_of t (x ∷ xs) ys e = dite (ℕ_discrete x t)
     (λ z. mem-here t x (xs ++ ys) z)
-    (λ ne. mem-else t x (xs ++ ys) ne ∙ mem-behind t xs ys e)
+    (λ ne. mem-else t x (xs ++ ys) ne ∙ mem-tail_of t xs ys e)
 
 -- in distinct halves nobody is in both
 pub distinct-apart : (t : ℕ) (xs ys : List ℕ) → Distinct (xs ++ ys) → mem t xs ≡ true → mem t ys ≡ false
 distinct-apart t [] ys d e = absurd (false_true e)
 distinct-apart t (x ∷ xs) ys d e = dite (ℕ_discrete x t)
-    (λ z. not_true (mem t ys) (λ there. both_ways (mem x (xs ++ ys)) (ap (λ (k : ℕ). mem k (xs ++ ys)) z ∙ mem-behind t xs ys there) d.0))
+    (λ z. not_true (mem t ys) (λ there. both_ways (mem x (xs ++ ys)) (ap (λ (k : ℕ). mem k (xs ++ ys)) z ∙ mem-tail_of t xs ys there) d.0))
     (λ ne. distinct-apart t xs ys d.1 (sym (mem-else t x xs ne) ∙ e))
 
-pub distinct-behind : (xs ys : List ℕ) → Distinct (xs ++ ys) → Distinct ys
-distinct-behind [] ys d = d
-distinct-behind (x ∷ xs) ys d = distinct-behind xs ys d.1
+pub distinct-tail_of : (xs ys : List ℕ) → Distinct (xs ++ ys) → Distinct ys
+distinct-tail_of [] ys d = d
+distinct-tail_of (x ∷ xs) ys d = distinct-tail_of xs ys d.1
 
 module _ {T H : Type 0} (line line' : ℕ → List ℕ) (words words' : List ℕ) where
   -- the same lines and the same ready word

@@ -17,7 +17,7 @@ use Rattle.nub_rule.specs.Places.{most_threads, bit_at, spin_at, length_at, read
 use Rattle.nub_rule.specs.Plays.{Grows}
 use Rattle.nub_rule.proofs.Each.{at_within}
 use Rattle.nub_rule.proofs.Runs.{leads-snoc, run-of}
-use Rattle.nub_rule.proofs.Frames.{bits-stay, spins-stay, ready-stay, pen-stay, sizes-frame, told-event, owned-frame, spins-frame, lines-frame}
+use Rattle.nub_rule.proofs.Frames.{bits-stay, spins-stay, ready-stay, pen-stay, sizes-frame, recorded-event, owned-frame, spins-frame, lines-frame}
 use Rattle.nub_rule.proofs.Penning.{pens-event, numbered-by}
 
 -- the word i is none that the items read other than the meaning of the words, the alerts seen and the owed wakes
@@ -31,7 +31,7 @@ pub record Aside (i : ℕ) : Type 0 where
 
 module _ {T H : Type 0} where
   -- the part after an event of its thread, in which the bits, values, queues and stands are the same
-  pub record IsTold (p q : Part T H) (log : List Event) (e : Event) : Type 0 where
+  pub record IsRecorded (p q : Part T H) (log : List Event) (e : Event) : Type 0 where
     pub version : q.version ≡ p.version
     pub seen : q.seen ≡ log ++ e ∷ []
     pub mine : q.mine ≡ p.mine ++ e ∷ []
@@ -54,17 +54,17 @@ module _ {T H W : Type 0} (l : Layout) (traced : Bool) (w : W) (holds : W → Li
   Marked e n i x p after words homes all = (q : Part T H) × Core l traced w holds (set words i x) homes (set all n q) × Learns e n p after q
 
   pub marks : (e : Event) (n i x : ℕ) (p : Part T H) (after : List Event → Part T H) (words : List ℕ) (homes : List (Option (Slot T))) (all : List (Part T H)) (c : Core l traced w holds words homes all) (spec' : Spec) → get_elem? all n ≡ some p → e.thread.0 ≡ n → IsNamed l e.action → MayTell traced p.life p.pen → Aside i
-      → ((z : List Event) → IsTold p (after z) z e) → Acts c.spec e spec' → ((z : List Event) → Shows (set words i x) c.spinner c.queue c.owner spec' (set all n (after z)))
+      → ((z : List Event) → IsRecorded p (after z) z e) → Acts c.spec e spec' → ((z : List Event) → Shows (set words i x) c.spinner c.queue c.owner spec' (set all n (after z)))
       → ((z : List Event) → AlertSeen (set words i x) (set all n (after z))) → ((z : List Event) → Lives (set words i x) (set all n (after z))) → ((z : List Event) → WakeOwed c.queue (set words i x) (set all n (after z))) → ((z : List Event) → BegunWaits (set words i x) (set all n (after z))) → Marked e n i x p after words homes all
   marks e n i x p after words homes all c spec' at by named may aside tells acts shows saw lives owes begun =
-      let seen = (c.told.each n p at).begins in
+      let seen = (c.recorded.each n p at).begins in
       let z : List Event = p.seen ++ seen.0 in
       let q : Part T H = after z in
       let t = tells z in
       let longer : q.seen ≡ c.log ++ e ∷ [] = t.seen ∙ ap (λ (y : List Event). y ++ e ∷ []) (sym seen.1) in
       let placed : q.places ≡ p.places ++ length c.log ∷ [] = t.places ∙ ap (λ (y : List Event). p.places ++ length y ∷ []) (sym seen.1) in
       let run = leads-snoc (at_first l.version) c.log c.spec e spec' c.run acts in
-      let told' = told-event all n p q at l c.log e by named longer t.mine placed c.told in
+      let recorded' = recorded-event all n p q at l c.log e by named longer t.mine placed c.recorded in
       let words' : List ℕ = set words i x in
       let more : length (c.log ++ e ∷ []) ≡ length c.log + 1 = length-append c.log (e ∷ []) in
       let pen = pen-stay words i x aside.pen aside.number in (
@@ -81,7 +81,7 @@ module _ {T H W : Type 0} (l : Layout) (traced : Bool) (w : W) (holds : W → Li
           shares = c.shares;
           sizes = sizes-frame all n p q at l words words' homes homes (length-set words i x) refl t.version (ap length t.held) c.sizes;
           run = run;
-          told = told';
+          recorded = recorded';
           owned = owned-frame all n p q at l (holds w) c.owner c.values c.shares words words' homes homes c.sizes.lawful (bits-stay words i x aside.bits) (λ m. refl) t.held t.share c.owned;
           spins = spins-frame all n p q at c.spinner c.queue c.owed words words' homes homes (spins-stay words i x aside.spins aside.lengths) (λ k lo. refl) t.spin t.queue t.owed c.spins;
           lines = lines-frame all n p q at (λ k. c.owed k ++ c.queue k) words words' c.sizes.few (ready-stay words i x aside.ready) t.stand c.lines;
@@ -96,7 +96,7 @@ module _ {T H W : Type 0} (l : Layout) (traced : Bool) (w : W) (holds : W → Li
           seen.0,
           record {
             legal = (spec', run-of l.version p.version (c.sizes.versions n p at) spec' (sym longer ∙ t.seen) run);
-            own = ap (by_thread n) (sym t.seen ∙ longer) ∙ ((told'.each n q (set_here all n q (at_within all n p at))).own ∙ t.mine);
+            own = ap (by_thread n) (sym t.seen ∙ longer) ∙ ((recorded'.each n q (set_here all n q (at_within all n p at))).own ∙ t.mine);
             number = λ k is. numbered-by traced (length c.log) words c.writer all n p q at c.pens k is ∙ ap (λ (y : List Event). length y) seen.1;
           },
           refl,

@@ -25,7 +25,7 @@ module _ {T H W : Type 0} where
   abbrev pub Placed : List (View T H W) → ℕ → ℕ → Type 0
   Placed views id n = (v : View T H W) × (get_elem? views id ≡ some v) × IsWith v v.kind n
 
-  -- it is still, whatever is put behind the views
+  -- it is still, whatever is put after the views
   pub placed-longer : (views more : List (View T H W)) (id n : ℕ) → Placed views id n → Placed (views ++ more) id n
   placed-longer views more id n o = (o.0, at_longer views more id o.0 o.1, o.2)
 

@@ -54,4 +54,4 @@ module _ {T H W : Type 0} (l : Layout) (traced : Bool) (w : W) (holds : W → Li
       → (o : Opt Wait) → p.wait ≡ o → IsNamed l (taken_action m o)
   taken-named words homes all c n p at m low None is = low
   taken-named words homes all c n p at m low (Some x) is = second-named l x.alertable x.mutex x.cond
-      (subst (IsOf l) (c.shows.pendings.pends n p at ∙ ap pending_of is) (names-lead l (at_first l.version) c.spec c.log c.run c.told.names (λ _. tt) n))
+      (subst (IsOf l) (c.shows.pendings.pends n p at ∙ ap pending_of is) (names-lead l (at_first l.version) c.spec c.log c.run c.recorded.names (λ _. tt) n))

@@ -101,8 +101,8 @@ module _ {T H W : Type 0} where
 
   pub second-one : (n : ℕ) (ks js : List (Known T H W)) (i : ℕ) (k found one : Known T H W) → with_number n ks ≡ [] → get_elem? js i ≡ some k → k.number ≡ n → found ≡ k → with_number n (ks ++ js) ≡ one ∷ [] → with_number n (ks ++ js) ≡ found ∷ []
   second-one n ks js i k found one none at is same there =
-      let behind : with_number n js ≡ one ∷ [] = ap (λ l. l ++ with_number n js) (sym none) ∙ (sym (with-both n ks js) ∙ there) in
-      there ∙ ap (λ (z : Known T H W). z ∷ []) (sym (the-one n js i k one at is behind) ∙ sym same)
+      let following : with_number n js ≡ one ∷ [] = ap (λ l. l ++ with_number n js) (sym none) ∙ (sym (with-both n ks js) ∙ there) in
+      there ∙ ap (λ (z : Known T H W). z ∷ []) (sym (the-one n js i k one at is following) ∙ sym same)
 
   pub first-removed : (n : ℕ) (ks js new : List (Known T H W)) (i : ℕ) (k : Known T H W) → new ≡ remove ks i → get_elem? ks i ≡ some k → k.number ≢ n → with_number n (new ++ js) ≡ with_number n (ks ++ js)
   first-removed n ks js new i k is at ne = with-both n new js ∙ (ap (λ l. l ++ with_number n js) (ap (with_number n) is ∙ with-removed n ks i k at ne) ∙ sym (with-both n ks js))

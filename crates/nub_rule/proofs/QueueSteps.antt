@@ -17,7 +17,7 @@ use Rattle.nub_rule.specs.declared.view.View.{View}
 use Rattle.nub_rule.specs.declared.view.Kind.TheVariants.{Member}
 use Rattle.nub_rule.specs.Items.{Core, Lines, Shows, Distinct}
 use Rattle.nub_rule.specs.Places.{length_at, spin_at, bit_at}
-use Rattle.nub_rule.specs.Plays.{Becomes, with_part, read_length_tells, push_gate_tells, take_out_tells, pop_gate_tells, behind, front, less}
+use Rattle.nub_rule.specs.Plays.{Becomes, with_part, read_length_tells, push_gate_tells, take_out_tells, pop_gate_tells, tail_of, front, less}
 use Rattle.nub_rule.specs.Rule.{IsKept}
 use Rattle.nub_rule.proofs.Each.{put-here, put-else, at_below}
 use Rattle.nub_rule.proofs.Idle.{idle-looked, idle-spun}
@@ -26,7 +26,7 @@ use Rattle.nub_rule.specs.Parts.{stands_at}
 use Rattle.nub_rule.specs.Owed.{WakeOwed}
 use Rattle.nub_rule.specs.Begun.{IsCounted}
 use Rattle.nub_rule.proofs.Frames.{lives-stay, SameShown, other, pens-frame, bits-stay, ready-stay, shown-stay, pen-stay, alert-seen-stays, alert-seen-frame}
-use Rattle.nub_rule.proofs.Lines.{some_none, both_ways, not_true, mem-behind, distinct-apart, distinct-behind, without-append, without-absent, less-without, lines-push, lines-leave, lines-same}
+use Rattle.nub_rule.proofs.Lines.{some_none, both_ways, not_true, mem-tail_of, distinct-apart, distinct-tail_of, without-append, without-absent, less-without, lines-push, lines-leave, lines-same}
 use Rattle.nub_rule.proofs.Showing.{shows-gate}
 use Rattle.nub_rule.proofs.Spinning.{only_here, spins-change}
 use Rattle.nub_rule.proofs.Beginning.{waits-stay, begun-frame, begun-same, counted-same, counted-stands, same-stand}
@@ -38,7 +38,7 @@ pub absent-before : (t : ℕ) (xs ys : List ℕ) → Distinct (xs ++ ys) → mem
 absent-before t xs ys d there = not_true (mem t xs) (λ here. both_ways (mem t ys) there (distinct-apart t xs ys d here))
 
 -- the first moves from the queue to those that are owed, and the line stays
-pub popped-line : (xs ys : List ℕ) → (xs ++ front ys) ++ behind ys ≡ xs ++ ys
+pub popped-line : (xs ys : List ℕ) → (xs ++ front ys) ++ tail_of ys ≡ xs ++ ys
 popped-line xs [] = append_assoc xs [] []
 popped-line xs (y ∷ ys) = append_assoc xs (y ∷ []) ys
 
@@ -50,15 +50,15 @@ none_long (x ∷ xs) e = absurd (omega arith)
 pub length-gates : (o : ℕ) → o < 192 → (words : List ℕ) (x : ℕ) → SameGates words (set words (length_at o) x)
 length-gates o low words x k lo = other words (length_at o) (bit_at k) x (λ z. omega arith)
 
--- the first of the queue of o stands there, and isn't behind itself
-first_stands : {T H : Type 0} (all : List (Part T H)) (owed queue words : List ℕ) (line : ℕ → List ℕ) (queue' : List ℕ) (o : ℕ) → Lines line words all → line o ≡ owed ++ queue → queue' ≡ behind queue
+-- the first of the queue of o stands there, and isn't after itself
+first_stands : {T H : Type 0} (all : List (Part T H)) (owed queue words : List ℕ) (line : ℕ → List ℕ) (queue' : List ℕ) (o : ℕ) → Lines line words all → line o ≡ owed ++ queue → queue' ≡ tail_of queue
     → (x : ℕ) (xs : List ℕ) → queue ≡ x ∷ xs → (r : Part T H) × (get_elem? all x ≡ some r) × (stands_at r.stand o ≡ true) × (queue' ≡ xs) × (mem x xs ≡ false)
 first_stands all owed queue words line queue' o lines is after x xs e =
     let here : mem x queue ≡ true = ap (mem x) e ∙ mem-here x x xs refl in
-    let there : mem x (line o) ≡ true = ap (mem x) is ∙ mem-behind x owed queue here in
+    let there : mem x (line o) ≡ true = ap (mem x) is ∙ mem-tail_of x owed queue here in
     let t = at_below all x (lines.people o x there) in
-    let d : Distinct (x ∷ xs) = subst Distinct e (distinct-behind owed queue (subst Distinct is (lines.distinct o))) in
-    (t.0, t.1, ((lines.stands x t.0 t.1).lined o there).0, after ∙ ap behind e, d.0)
+    let d : Distinct (x ∷ xs) = subst Distinct e (distinct-tail_of owed queue (subst Distinct is (lines.distinct o))) in
+    (t.0, t.1, ((lines.stands x t.0 t.1).lined o there).0, after ∙ ap tail_of e, d.0)
 
 module _ {T H W : Type 0} (l : Layout) (traced : Bool) (w : W) (begin : W → ℕ → H) (holds : W → List T → List H → Type 0) where
   -- the thread n, which has the spin word of o, changes the queue to ys and those that it owes to zs
@@ -165,14 +165,14 @@ module _ {T H W : Type 0} (l : Layout) (traced : Bool) (w : W) (begin : W → �
       let line' : ℕ → List ℕ = λ i. put c.owed o (c.owed o) i ++ put c.queue o ys i in
       let d = c.lines.distinct o in
       let queued : mem n (c.queue o) ≡ true = ap (mem n) (sym mine.1) ∙ there in
-      let gone : ys ≡ without n (c.queue o) = ap (less n) mine.1 ∙ less-without n (c.queue o) (distinct-behind (c.owed o) (c.queue o) d) in
+      let gone : ys ≡ without n (c.queue o) = ap (less n) mine.1 ∙ less-without n (c.queue o) (distinct-tail_of (c.owed o) (c.queue o) d) in
       let is : line' o ≡ without n (line o) = (λ i. (put-here c.owed o (c.owed o) ∙ sym (without-absent n (c.owed o) (absent-before n (c.owed o) (c.queue o) d queued))) i ++ (put-here c.queue o ys ∙ gone) i) ∙ sym (without-append n (c.owed o) (c.queue o)) in (
         q,
         keeps,
         tt,
         requeues n o p q ys (c.owed o) words homes all at low here record { version = refl; life = refl; seen = refl; mine = refl; places = refl; held = refl; share = refl } refl refl mine.2 (λ e. ap (less n) e) refl refl refl c
-            (lines-leave line line' words words' all n p q at c.sizes.few o (ready-stay words (length_at o) (length ys) (λ k up z. omega arith)) is (λ k ne i. put-else c.owed o k (c.owed o) ne i ++ put-else c.queue o k ys ne i) (mem-behind n (c.owed o) (c.queue o) queued) refl c.lines)
-            (owes-leave c.queue (put c.queue o ys) words words' all n p q at o (length-gates o far words (length ys)) (λ k ne. put-else c.queue o k ys ne) ((c.lines.stands n p at).lined o (mem-behind n (c.owed o) (c.queue o) queued)).0 refl refl refl c.owes)
+            (lines-leave line line' words words' all n p q at c.sizes.few o (ready-stay words (length_at o) (length ys) (λ k up z. omega arith)) is (λ k ne i. put-else c.owed o k (c.owed o) ne i ++ put-else c.queue o k ys ne i) (mem-tail_of n (c.owed o) (c.queue o) queued) refl c.lines)
+            (owes-leave c.queue (put c.queue o ys) words words' all n p q at o (length-gates o far words (length ys)) (λ k ne. put-else c.queue o k ys ne) ((c.lines.stands n p at).lined o (mem-tail_of n (c.owed o) (c.queue o) queued)).0 refl refl refl c.owes)
             refl
             (λ h. counted-stands p q refl h refl (λ u d is on. absurd (some_none q.stand u refl is))),
         (refl, refl),
@@ -183,14 +183,14 @@ module _ {T H W : Type 0} (l : Layout) (traced : Bool) (w : W) (begin : W → �
       → Allows (IsKept l traced w begin holds) slots id me i (λ _. r) (λ _. take_out_tells (step slots i r 0 none) me r)
   take_out_keeps slots id o r me s i word low kind here there long = subst (λ (i : ℕ). Allows (IsKept l traced w begin holds) slots id me i (λ _. r) (λ _. take_out_tells (step slots i r 0 none) me r)) (sym word) (take_out_at slots id o r me s low kind here there long)
 
-  pop_gate_at : (slots id o r : ℕ) (me : Me (Slot T) (View T H W)) → o < 128 → me.0.kind ≡ Member → me.0.part.spin ≡ Some o → r ≡ length (behind me.0.part.queue)
+  pop_gate_at : (slots id o r : ℕ) (me : Me (Slot T) (View T H W)) → o < 128 → me.0.kind ≡ Member → me.0.part.spin ≡ Some o → r ≡ length (tail_of me.0.part.queue)
       → Allows (IsKept l traced w begin holds) slots id me (length_at o) (λ _. r) (λ _. pop_gate_tells (step slots (length_at o) r 0 none) me r)
-  pop_gate_at slots id o r me low kind here long = let v = me.0 in let n = v.number in let p = v.part in let ys : List ℕ = behind p.queue in
-      let q : Part T H = record p { queue = ys; owed = p.owed ++ front p.queue; left = behind p.left; cleared = without o p.cleared; looked = without o p.looked } in
+  pop_gate_at slots id o r me low kind here long = let v = me.0 in let n = v.number in let p = v.part in let ys : List ℕ = tail_of p.queue in
+      let q : Part T H = record p { queue = ys; owed = p.owed ++ front p.queue; left = tail_of p.left; cleared = without o p.cleared; looked = without o p.looked } in
       subst (λ (z : ℕ). Allows (IsKept l traced w begin holds) slots id me (length_at o) (λ _. z) (λ _. pop_gate_tells (step slots (length_at o) z 0 none) me z)) (sym long)
       (member_steps l traced w begin holds slots id (length_at o) (λ _. length ys) v me.1 (λ x s ds. (s ≡ q) × (ds ≡ me.1)) (λ _. pop_gate_tells (step slots (length_at o) (length ys) 0 none) me (length ys)) kind
       (λ x s ds t. idle-spun p s v.child o here (ap (λ (z : Part T H). z.life) t.0))
-      (λ x s ds world t k is. let e : o ≡ k = omega arith in (λ i. (with_part v (t.0 i), t.1 i)) ∙ (λ i. (with_part v (record p { queue = ys; owed = p.owed ++ front p.queue; left = behind p.left; cleared = without (e i) p.cleared; looked = without (e i) p.looked }), me.1)))
+      (λ x s ds world t k is. let e : o ≡ k = omega arith in (λ i. (with_part v (t.0 i), t.1 i)) ∙ (λ i. (with_part v (record p { queue = ys; owed = p.owed ++ front p.queue; left = tail_of p.left; cleared = without (e i) p.cleared; looked = without (e i) p.looked }), me.1)))
       (λ words homes all c at small.
       let mine = (c.spins.spinning n p at o).0 here in
       let words' : List ℕ = set words (length_at o) (length ys) in
@@ -203,16 +203,16 @@ module _ {T H W : Type 0} (l : Layout) (traced : Bool) (w : W) (begin : W → �
         q,
         keeps,
         tt,
-        requeues n o p q ys zs words homes all at low here record { version = refl; life = refl; seen = refl; mine = refl; places = refl; held = refl; share = refl } refl refl refl (λ e. ap behind e) refl refl refl c
+        requeues n o p q ys zs words homes all at low here record { version = refl; life = refl; seen = refl; mine = refl; places = refl; held = refl; share = refl } refl refl refl (λ e. ap tail_of e) refl refl refl c
             (lines-same line line' words words' all n p q at c.sizes.few (ready-stay words (length_at o) (length ys) (λ k up z. omega arith)) same refl c.lines)
             (owes-pop c.queue (put c.queue o ys) words words' all n p q at o (length-gates o far words (length ys))
-            (first_stands all (c.owed o) (c.queue o) words line (put c.queue o ys o) o c.lines refl (put-here c.queue o ys ∙ ap behind mine.1)) (λ e. put-here c.queue o ys ∙ (ap behind mine.1 ∙ ap behind e)) (λ k ne. put-else c.queue o k ys ne) refl refl refl c.owes)
+            (first_stands all (c.owed o) (c.queue o) words line (put c.queue o ys o) o c.lines refl (put-here c.queue o ys ∙ ap tail_of mine.1)) (λ e. put-here c.queue o ys ∙ (ap tail_of mine.1 ∙ ap tail_of e)) (λ k ne. put-else c.queue o k ys ne) refl refl refl c.owes)
             refl
             (λ h. counted-same p q refl h refl refl),
         (refl, refl),
       )))
 
   -- the same at a word that is this place
-  pub pop_gate_keeps : (slots id o r : ℕ) (me : Me (Slot T) (View T H W)) (i : ℕ) → i ≡ length_at o → o < 128 → me.0.kind ≡ Member → me.0.part.spin ≡ Some o → r ≡ length (behind me.0.part.queue)
+  pub pop_gate_keeps : (slots id o r : ℕ) (me : Me (Slot T) (View T H W)) (i : ℕ) → i ≡ length_at o → o < 128 → me.0.kind ≡ Member → me.0.part.spin ≡ Some o → r ≡ length (tail_of me.0.part.queue)
       → Allows (IsKept l traced w begin holds) slots id me i (λ _. r) (λ _. pop_gate_tells (step slots i r 0 none) me r)
   pop_gate_keeps slots id o r me i word low kind here long = subst (λ (i : ℕ). Allows (IsKept l traced w begin holds) slots id me i (λ _. r) (λ _. pop_gate_tells (step slots i r 0 none) me r)) (sym word) (pop_gate_at slots id o r me low kind here long)

@@ -14,14 +14,14 @@ use Rattle.nub_rule.specs.declared.view.Wait.{Wait}
 use Rattle.nub_rule.specs.declared.view.Kind.TheVariants.{Member}
 use Rattle.nub_rule.specs.Parts.{Got, MayTell, pending_of, waits_on}
 use Rattle.nub_rule.specs.Places.{most_threads, alert_at, bit_at, count_at, sem_object, cond_object}
-use Rattle.nub_rule.specs.Plays.{Becomes, Grows, told, with_part, alert_raise_event, swap_alert_in_raise_tells}
+use Rattle.nub_rule.specs.Plays.{Becomes, Grows, recorded, with_part, alert_raise_event, swap_alert_in_raise_tells}
 use Rattle.nub_rule.specs.Rule.{IsKept}
 use Rattle.nub_rule.proofs.Apart.{thread-of}
 use Rattle.nub_rule.proofs.Each.{put-here, put-else}
 use Rattle.nub_rule.proofs.Idle.{idle-live}
 use Rattle.nub_rule.proofs.Members.{Steps, member_steps}
 use Rattle.nub_rule.proofs.Frames.{lives-frame, lives-stay, lived-frame, other, semaphores-frame}
-use Rattle.nub_rule.proofs.Lines.{not_true, stand_none, mem-behind}
+use Rattle.nub_rule.proofs.Lines.{not_true, stand_none, mem-tail_of}
 use Rattle.nub_rule.proofs.Beginning.{waits-stay, begun-frame, counted-over}
 use Rattle.nub_rule.proofs.Owing.{owes-frame}
 use Rattle.nub_rule.proofs.Showing.{holders-take, pendings-put, alerts-set}
@@ -35,7 +35,7 @@ same-wait x y e = cc
 module _ {T H W : Type 0} (l : Layout) (traced : Bool) (w : W) (begin : W → ℕ → H) (holds : W → List T → List H → Type 0) where
   -- the view after the raise
   abbrev raised : ℕ → Wait → Part T H → List Event → Part T H
-  raised n x p z = record (told p z (alert_raise_event n x.mutex.0 x.cond.0)) { wait = None; alerted = false }
+  raised n x p z = record (recorded p z (alert_raise_event n x.mutex.0 x.cond.0)) { wait = None; alerted = false }
 
   raises_at : (n : ℕ) (p : Part T H) (cs : List (ℕ × Slot T)) (x : Wait) (y : T) → n < most_threads → (x.mutex.0 < l.mutexes) × (x.cond.0 < l.conditions) → p.wait ≡ Some x → x.alertable ≡ true → Got p x.mutex.0 y → p.stand ≡ None → p.alerted ≡ true → MayTell traced p.life p.pen
       → Steps l traced w begin holds n (alert_at n) (λ _. 0) p cs (λ r q ds. (r ≡ 1) × Learns (alert_raise_event n x.mutex.0 x.cond.0) n p (raised n x p) q × (ds ≡ cs))
@@ -52,7 +52,7 @@ module _ {T H W : Type 0} (l : Layout) (traced : Bool) (w : W) (begin : W → �
       let nobody : k.spec.holder m ≡ none = k.shows.holders.holds n p at m own ∙ ap (λ b. cond b none (some n)) (ap (λ z. waits_on z m) before ∙ eq-eqb m m refl) in
       let begun : k.spec.pending n ≡ AlertWaiting x.mutex x.cond = k.shows.pendings.pends n p at ∙ (ap pending_of before ∙ ap (λ b. cond b (AlertWaiting x.mutex x.cond) (Waiting x.mutex x.cond)) alertable) in
       let alerted : k.spec.alerts n ≡ true = said-one (get_or words i 0) (k.spec.alerts n) (k.shows.alerts n low) one in
-      let unqueued : mem n (k.queue (cond_object c)) ≡ false = not_true (mem n (k.queue (cond_object c))) (λ is. stand_none p.stand (cond_object c) apart ((k.lines.stands n p at).lined (cond_object c) (mem-behind n (k.owed (cond_object c)) (k.queue (cond_object c)) is)).0) in
+      let unqueued : mem n (k.queue (cond_object c)) ≡ false = not_true (mem n (k.queue (cond_object c))) (λ is. stand_none p.stand (cond_object c) apart ((k.lines.stands n p at).lined (cond_object c) (mem-tail_of n (k.owed (cond_object c)) (k.queue (cond_object c)) is)).0) in
       let done = marks l traced w holds e n i 0 p (raised n x p) words homes all k (acted n k.spec e.action) at refl named may (alert-aside n low)
       (λ z. record { version = refl; seen = refl; mine = refl; places = refl; held = refl; share = refl; spin = refl; queue = refl; owed = refl; stand = refl; pen = refl })
       (record { live = k.shows.lives n p at ∙ may.0; order = begun; requires_met = tt; when_met = (nobody, alerted); choice_met = tt }, refl)

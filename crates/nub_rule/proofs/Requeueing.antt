@@ -26,7 +26,7 @@ use Rattle.nub_rule.specs.Known.{Known, Shape, MayPop, MayPush, known_as, shape_
 use Rattle.nub_rule.specs.Objects.{object_of, HasObject, IsCond, IsGate}
 use Rattle.nub_rule.specs.Parts.{left_turns}
 use Rattle.nub_rule.specs.Places.{cond_object, sem_object, length_at, most_threads, queue_at}
-use Rattle.nub_rule.specs.Plays.{Sat, behind, front, less, unread, recounted, push_gate_tells, push_cond_tells, pop_gate_tells, pop_cond_tells, take_out_tells, leave_cond_queue_tells, leave_sem_queue_tells}
+use Rattle.nub_rule.specs.Plays.{Sat, tail_of, front, less, unread, recounted, push_gate_tells, push_cond_tells, pop_gate_tells, pop_cond_tells, take_out_tells, leave_cond_queue_tells, leave_sem_queue_tells}
 use Rattle.nub_rule.specs.Queued.{MayRequeue, Requeued}
 use Rattle.nub_rule.specs.Rule.{IsKept}
 use Rattle.nub_rule.proofs.AlertSteps.{leave_sem_queue_keeps}
@@ -52,9 +52,9 @@ module _ {T H W : Type 0} where
         → MayRequeue (IsKept key.layout key.traced key.world.value begin holds) tells key.layout (known_as z' n me es lo nx) o (me.0.part.queue ++ n ∷ []) ⊥
     push_shown = subst (λ (x : Shape W × Known T H W × ℕ). MayRequeue (IsKept x.0.layout x.0.traced x.0.world begin holds) tells x.0.layout x.1 x.2 (x.1.queue ++ x.1.number ∷ []) ⊥) (λ j. (sym v j, sym w j, sym q j))
 
-    pub pop_shown : MayRequeue (IsKept s.layout s.traced s.world begin holds) tells s.layout k o' (behind k.queue) (k.stand ≡ None)
-        → MayRequeue (IsKept key.layout key.traced key.world.value begin holds) tells key.layout (known_as z' n me es lo nx) o (behind me.0.part.queue) (me.0.part.stand ≡ None)
-    pop_shown = subst (λ (x : Shape W × Known T H W × ℕ). MayRequeue (IsKept x.0.layout x.0.traced x.0.world begin holds) tells x.0.layout x.1 x.2 (behind x.1.queue) (x.1.stand ≡ None)) (λ j. (sym v j, sym w j, sym q j))
+    pub pop_shown : MayRequeue (IsKept s.layout s.traced s.world begin holds) tells s.layout k o' (tail_of k.queue) (k.stand ≡ None)
+        → MayRequeue (IsKept key.layout key.traced key.world.value begin holds) tells key.layout (known_as z' n me es lo nx) o (tail_of me.0.part.queue) (me.0.part.stand ≡ None)
+    pop_shown = subst (λ (x : Shape W × Known T H W × ℕ). MayRequeue (IsKept x.0.layout x.0.traced x.0.world begin holds) tells x.0.layout x.1 x.2 (tail_of x.1.queue) (x.1.stand ≡ None)) (λ j. (sym v j, sym w j, sym q j))
 
     pub leave_shown : (mem k.number k.queue ≡ true → MayRequeue (IsKept s.layout s.traced s.world begin holds) tells s.layout k o' (less k.number k.queue) (Unit {0}))
         → mem n me.0.part.queue ≡ true → MayRequeue (IsKept key.layout key.traced key.world.value begin holds) tells key.layout (known_as z' n me es lo nx) o (less n me.0.part.queue) (Unit {0})
@@ -70,14 +70,14 @@ module _ {T H W : Type 0} where
     -- the thread is one still after the step
     pub written : (s : Slot T) (z' : TableId) (hand hand' : List ℕ) (front me' : Sat T H W) {kept : List T} {room : ℕ} (st : Step (Slot T)) (r : ℕ) → IsThread z n hand me kept room → QueueAtHand me front hand' o → z' ≡ z → s ≡ Queue (queue_of zs)
         → tells st (front.0, (queue_at o, s) ∷ rest front.1) r me' → st.word ≡ length_at o → (nowhere → length zs < most_threads) → After m.change (λ vs. vs) z z' n hand' me me' kept room
-    written s z' hand hand' front me' st r t at ez is told word few = requeued m.change zs s z z' n hand hand' me front me' o t at ez is (m.told st (front.0, (queue_at o, s) ∷ rest front.1) r me' word told) m.held m.spin m.queue (λ e. few (m.stand e))
+    written s z' hand hand' front me' st r t at ez is recorded word few = requeued m.change zs s z z' n hand hand' me front me' o t at ez is (m.recorded st (front.0, (queue_at o, s) ∷ rest front.1) r me' word recorded) m.held m.spin m.queue (λ e. few (m.stand e))
 
   module _ {l : Layout} {traced : Bool} {w : W} {begin : W → ℕ → H} {holds : W → List T → List H → Type 0} (k : Known T H W) where
     pub may_push_gate : (at : Object) → IsGate at → HasObject l at → k.spin ≡ Some (object_of at) → k.stand ≡ None → MayRequeue (IsKept l traced w begin holds) push_gate_tells l k (object_of at) (k.queue ++ k.number ∷ []) ⊥
     may_push_gate at gate has here out = record {
       allowed = λ law slots id me kind num part. push_gate_keeps _ _ _ _ _ slots id (object_of at) _ me _ refl (gate_below l at law gate has) kind (ap (λ p. p.spin) part ∙ here) (ap (λ p. p.stand) part ∙ out) (λ j. length ((sym part j).queue ++ sym num j ∷ []));
       change = λ n p. record p { queue = p.queue ++ n ∷ []; left = p.left ++ n ∷ []; stand = Some record { at = object_of at; stage = Pushed } };
-      told = λ st me r me' word t. t (object_of at) word;
+      recorded = λ st me r me' word t. t (object_of at) word;
       held = refl;
       spin = refl;
       queue = refl;
@@ -90,31 +90,31 @@ module _ {T H W : Type 0} where
     may_push_cond (Cond i) is has here out (x, waits, on, stood) = let c = i.0 in record {
       allowed = λ law slots id me kind num part. push_cond_keeps _ _ _ _ _ slots id c _ x me _ refl (let z = law.conditions in omega arith) kind (ap (λ p. p.spin) part ∙ here) (ap (λ p. p.stand) part ∙ out) (ap (λ p. p.wait) part ∙ waits) on (stood ∙ (λ j. Some (sym part j).count)) (λ j. length ((sym part j).queue ++ sym num j ∷ []));
       change = λ n p. record p { queue = p.queue ++ n ∷ []; left = p.left ++ n ∷ []; stand = Some record { at = cond_object c; stage = Tested }; wait = unread p.wait };
-      told = λ st me r me' word t. t (cond_object c) word;
+      recorded = λ st me r me' word t. t (cond_object c) word;
       held = refl;
       spin = refl;
       queue = refl;
       stand = λ e. some_or_none _ _ e refl;
     }
 
-    pub may_pop_gate : (at : Object) → IsGate at → HasObject l at → k.spin ≡ Some (object_of at) → MayRequeue (IsKept l traced w begin holds) pop_gate_tells l k (object_of at) (behind k.queue) (k.stand ≡ None)
+    pub may_pop_gate : (at : Object) → IsGate at → HasObject l at → k.spin ≡ Some (object_of at) → MayRequeue (IsKept l traced w begin holds) pop_gate_tells l k (object_of at) (tail_of k.queue) (k.stand ≡ None)
     may_pop_gate at gate has here = record {
-      allowed = λ law slots id me kind num part. pop_gate_keeps _ _ _ _ _ slots id (object_of at) _ me _ refl (gate_below l at law gate has) kind (ap (λ p. p.spin) part ∙ here) (λ j. length (behind (sym part j).queue));
-      change = λ n p. record p { queue = behind p.queue; owed = p.owed ++ front p.queue; left = behind p.left; cleared = without (object_of at) p.cleared; looked = without (object_of at) p.looked };
-      told = λ st me r me' word t. t (object_of at) word;
+      allowed = λ law slots id me kind num part. pop_gate_keeps _ _ _ _ _ slots id (object_of at) _ me _ refl (gate_below l at law gate has) kind (ap (λ p. p.spin) part ∙ here) (λ j. length (tail_of (sym part j).queue));
+      change = λ n p. record p { queue = tail_of p.queue; owed = p.owed ++ front p.queue; left = tail_of p.left; cleared = without (object_of at) p.cleared; looked = without (object_of at) p.looked };
+      recorded = λ st me r me' word t. t (object_of at) word;
       held = refl;
       spin = refl;
       queue = refl;
       stand = λ e. e;
     }
 
-    pub may_pop_cond : (at : Object) → IsCond at → HasObject l at → k.spin ≡ Some (object_of at) → MayPop at k → MayRequeue (IsKept l traced w begin holds) pop_cond_tells l k (object_of at) (behind k.queue) (k.stand ≡ None)
+    pub may_pop_cond : (at : Object) → IsCond at → HasObject l at → k.spin ≡ Some (object_of at) → MayPop at k → MayRequeue (IsKept l traced w begin holds) pop_cond_tells l k (object_of at) (tail_of k.queue) (k.stand ≡ None)
     may_pop_cond (Mutex m) is has here may = absurd is
     may_pop_cond (Sem s) is has here may = absurd is
     may_pop_cond (Cond i) is has here (out, taken) = let c = i.0 in record {
-      allowed = λ law slots id me kind num part. pop_cond_keeps _ _ _ _ _ slots id c _ me _ refl (let z = law.conditions in omega arith) kind (ap (λ p. p.spin) part ∙ here) (ap (λ p. p.wait) part ∙ out) (subst (λ (p : Part T H). (t : ℕ) → mem t (behind p.queue) ≡ false → mem t p.left ≡ false) (sym part) taken) (λ j. length (behind (sym part j).queue));
-      change = λ n p. record p { queue = behind p.queue; owed = p.owed ++ front p.queue };
-      told = λ st me r me' word t. t;
+      allowed = λ law slots id me kind num part. pop_cond_keeps _ _ _ _ _ slots id c _ me _ refl (let z = law.conditions in omega arith) kind (ap (λ p. p.spin) part ∙ here) (ap (λ p. p.wait) part ∙ out) (subst (λ (p : Part T H). (t : ℕ) → mem t (tail_of p.queue) ≡ false → mem t p.left ≡ false) (sym part) taken) (λ j. length (tail_of (sym part j).queue));
+      change = λ n p. record p { queue = tail_of p.queue; owed = p.owed ++ front p.queue };
+      recorded = λ st me r me' word t. t;
       held = refl;
       spin = refl;
       queue = refl;
@@ -125,7 +125,7 @@ module _ {T H W : Type 0} where
     may_take_out at s gate has here there = record {
       allowed = λ law slots id me kind num part. take_out_keeps _ _ _ _ _ slots id (object_of at) _ me s _ refl (gate_below l at law gate has) kind (ap (λ p. p.spin) part ∙ here) ((λ j. mem (num j) (part j).queue) ∙ there) (λ j. length (less (sym num j) (sym part j).queue));
       change = λ n p. record p { queue = less n p.queue; left = less n p.left; stand = None; turns = object_of at ∷ p.turns };
-      told = λ st me r me' word t. t (object_of at) word;
+      recorded = λ st me r me' word t. t (object_of at) word;
       held = refl;
       spin = refl;
       queue = refl;
@@ -136,7 +136,7 @@ module _ {T H W : Type 0} where
     may_leave_cond_queue c x low here waits on there = record {
       allowed = λ law slots id me kind num part. leave_cond_queue_keeps _ _ _ _ _ slots id c _ x me _ refl (low law) kind (ap (λ p. p.spin) part ∙ here) (ap (λ p. p.wait) part ∙ waits) on ((λ j. mem (num j) (part j).queue) ∙ there) (λ j. length (less (sym num j) (sym part j).queue));
       change = λ n p. record p { queue = less n p.queue; left = less n p.left; stand = None; wait = recounted p.count p.wait };
-      told = λ st me r me' word t. t;
+      recorded = λ st me r me' word t. t;
       held = refl;
       spin = refl;
       queue = refl;
@@ -147,7 +147,7 @@ module _ {T H W : Type 0} where
     may_leave_sem_queue s x low here stood on there = record {
       allowed = λ law slots id me kind num part. leave_sem_queue_keeps _ _ _ _ _ slots id (sem_object s) _ me x _ refl (low law) kind (ap (λ p. p.spin) part ∙ here) (ap (λ p. p.stand) part ∙ stood) on ((λ j. mem (num j) (part j).queue) ∙ there) (λ j. length (less (sym num j) (sym part j).queue));
       change = λ n p. record p { queue = less n p.queue; left = less n p.left; stand = None; turns = left_turns p.stand p.turns };
-      told = λ st me r me' word t. t;
+      recorded = λ st me r me' word t. t;
       held = refl;
       spin = refl;
       queue = refl;
@@ -158,9 +158,9 @@ module _ {T H W : Type 0} where
   pub record Popped (r : Opt ThreadId) (k b : Known T H W) : Type 0 where
     pub none : r ≡ None → k.queue ≡ []
     pub owes : r ≡ None → b.owed ≡ k.owed
-    pub first : (t : ThreadId) → r ≡ Some t → (k.queue ≡ t.0 ∷ behind k.queue) × (b.owed ≡ k.owed ++ t.0 ∷ [])
+    pub first : (t : ThreadId) → r ≡ Some t → (k.queue ≡ t.0 ∷ tail_of k.queue) × (b.owed ≡ k.owed ++ t.0 ∷ [])
 
-  popped : (r : Opt ThreadId) (k b : Known T H W) → (r ≡ None → k.queue ≡ []) → ((t : ThreadId) → r ≡ Some t → k.queue ≡ t.0 ∷ behind k.queue) → b.owed ≡ k.owed ++ front k.queue → Popped r k b
+  popped : (r : Opt ThreadId) (k b : Known T H W) → (r ≡ None → k.queue ≡ []) → ((t : ThreadId) → r ≡ Some t → k.queue ≡ t.0 ∷ tail_of k.queue) → b.owed ≡ k.owed ++ front k.queue → Popped r k b
   popped r k b empty first owed = record {
     none = empty;
     owes = λ e. owed ∙ ((λ j. k.owed ++ front-none k.queue (empty e) j) ∙ append-nil k.owed);
@@ -168,16 +168,16 @@ module _ {T H W : Type 0} where
   }
 
   module _ (at : Object) (r : Opt ThreadId) (k b : Known T H W) where
-    gate_out : Requeued pop_gate_tells (object_of at) k b → b ≡ record k { queue = behind k.queue; owed = k.owed ++ front k.queue; left = behind k.left; cleared = without (object_of at) k.cleared; looked = without (object_of at) k.looked }
-    gate_out u = u (λ n p. record p { queue = behind p.queue; owed = p.owed ++ front p.queue; left = behind p.left; cleared = without (object_of at) p.cleared; looked = without (object_of at) p.looked }) (λ st me r me' word t. t (object_of at) word)
+    gate_out : Requeued pop_gate_tells (object_of at) k b → b ≡ record k { queue = tail_of k.queue; owed = k.owed ++ front k.queue; left = tail_of k.left; cleared = without (object_of at) k.cleared; looked = without (object_of at) k.looked }
+    gate_out u = u (λ n p. record p { queue = tail_of p.queue; owed = p.owed ++ front p.queue; left = tail_of p.left; cleared = without (object_of at) p.cleared; looked = without (object_of at) p.looked }) (λ st me r me' word t. t (object_of at) word)
 
-    cond_out : Requeued pop_cond_tells (object_of at) k b → b ≡ record k { queue = behind k.queue; owed = k.owed ++ front k.queue }
-    cond_out u = u (λ n p. record p { queue = behind p.queue; owed = p.owed ++ front p.queue }) (λ st me r me' word t. t)
+    cond_out : Requeued pop_cond_tells (object_of at) k b → b ≡ record k { queue = tail_of k.queue; owed = k.owed ++ front k.queue }
+    cond_out u = u (λ n p. record p { queue = tail_of p.queue; owed = p.owed ++ front p.queue }) (λ st me r me' word t. t)
 
-    pub gate_popped : (r ≡ None → k.queue ≡ []) × ((t : ThreadId) → r ≡ Some t → k.queue ≡ t.0 ∷ behind k.queue) × Requeued pop_gate_tells (object_of at) k b
-        → Popped r k b × (b ≡ record k { queue = behind k.queue; left = behind k.left; owed = b.owed; cleared = without (object_of at) k.cleared; looked = without (object_of at) k.looked })
-    gate_popped u = let e = gate_out u.2 in (popped r k b u.0 u.1 (ap (λ x. x.owed) e), subst (λ b. b ≡ record k { queue = behind k.queue; left = behind k.left; owed = b.owed; cleared = without (object_of at) k.cleared; looked = without (object_of at) k.looked }) (sym e) refl)
+    pub gate_popped : (r ≡ None → k.queue ≡ []) × ((t : ThreadId) → r ≡ Some t → k.queue ≡ t.0 ∷ tail_of k.queue) × Requeued pop_gate_tells (object_of at) k b
+        → Popped r k b × (b ≡ record k { queue = tail_of k.queue; left = tail_of k.left; owed = b.owed; cleared = without (object_of at) k.cleared; looked = without (object_of at) k.looked })
+    gate_popped u = let e = gate_out u.2 in (popped r k b u.0 u.1 (ap (λ x. x.owed) e), subst (λ b. b ≡ record k { queue = tail_of k.queue; left = tail_of k.left; owed = b.owed; cleared = without (object_of at) k.cleared; looked = without (object_of at) k.looked }) (sym e) refl)
 
-    pub cond_popped : (r ≡ None → k.queue ≡ []) × ((t : ThreadId) → r ≡ Some t → k.queue ≡ t.0 ∷ behind k.queue) × Requeued pop_cond_tells (object_of at) k b
-        → Popped r k b × (b ≡ record k { queue = behind k.queue; owed = b.owed })
-    cond_popped u = let e = cond_out u.2 in (popped r k b u.0 u.1 (ap (λ x. x.owed) e), subst (λ b. b ≡ record k { queue = behind k.queue; owed = b.owed }) (sym e) refl)
+    pub cond_popped : (r ≡ None → k.queue ≡ []) × ((t : ThreadId) → r ≡ Some t → k.queue ≡ t.0 ∷ tail_of k.queue) × Requeued pop_cond_tells (object_of at) k b
+        → Popped r k b × (b ≡ record k { queue = tail_of k.queue; owed = b.owed })
+    cond_popped u = let e = cond_out u.2 in (popped r k b u.0 u.1 (ap (λ x. x.owed) e), subst (λ b. b ≡ record k { queue = tail_of k.queue; owed = b.owed }) (sym e) refl)

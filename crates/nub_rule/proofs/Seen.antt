@@ -12,7 +12,7 @@ use Rattle.nub_rule.specs.declared.rule.Slot.TheVariants.{Value}
 use Rattle.nub_rule.specs.Known.{Known, known_as, Hands, IsThread, MayGive}
 use Rattle.nub_rule.specs.Places.{most_threads, value_at}
 use Rattle.nub_rule.specs.Plays.{Sat, with_part, MayFree}
-use Rattle.nub_rule.specs.Slots.{find, IsDistinct, Below, behind_first}
+use Rattle.nub_rule.specs.Slots.{find, IsDistinct, Below, past_first}
 use Rattle.nub_rule.proofs.Turns.{keys}
 use Rattle.nub_rule.proofs.Handling.{gone, value-found}
 
@@ -56,18 +56,18 @@ module _ {T : Type 0} where
   below_rest n [] b = tt
   below_rest n (x ∷ xs) b = b.1
 
-  keys_rest : (xs : List (ℕ × Slot T)) → keys (rest xs) ≡ behind_first (keys xs)
+  keys_rest : (xs : List (ℕ × Slot T)) → keys (rest xs) ≡ past_first (keys xs)
   keys_rest [] = refl
   keys_rest (x ∷ xs) = refl
 
 module _ {T H W : Type 0} where
   -- the slot that was brought to the front is given back
   pub fit_given : (z z' : TableId) (n slot : ℕ) (s : Slot T) (hand hand' : List ℕ) (me me' : Sat T H W) (q : Part T H) (xs : List (ℕ × Slot T)) {kept : List T} {room : ℕ} → z' ≡ z → me' ≡ (with_part me.0 q, rest xs) → (me.0.kind ≡ Member) → (me.0.number ≡ n) → (length me.0.part.held ≡ 64) → kept ≡ [] → (n ≡ 0 → z.slots ≤ value_at room) → n < most_threads
-      → keys xs ≡ hand → hand' ≡ behind_first hand → IsDistinct xs → Below 256 xs → xs ≡ (slot, s) ∷ rest xs → length q.held ≡ length me.0.part.held → Hands q (rest xs) → IsThread z' n hand' me' kept room
+      → keys xs ≡ hand → hand' ≡ past_first hand → IsDistinct xs → Below 256 xs → xs ≡ (slot, s) ∷ rest xs → length q.held ≡ length me.0.part.held → Hands q (rest xs) → IsThread z' n hand' me' kept room
   fit_given z z' n slot s hand hand' me me' q xs {kept} {room} ez em kind number wide bare roomy few ks hs d low first held hands = subst (λ (t : TableId × Sat T H W). IsThread t.0 n hand' t.1 kept room) (λ i. (sym ez i, sym em i)) record {
     member = kind;
     numbered = number;
-    keyed = keys_rest xs ∙ (ap behind_first ks ∙ sym hs);
+    keyed = keys_rest xs ∙ (ap past_first ks ∙ sym hs);
     distinct = (gone slot xs s d first).2;
     below = below_rest 256 xs low;
     wide = held ∙ wide;

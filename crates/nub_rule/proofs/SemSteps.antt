@@ -23,7 +23,7 @@ use Rattle.nub_rule.specs.declared.view.Kind.TheVariants.{Member}
 use Rattle.nub_rule.specs.Items.{Says, Core}
 use Rattle.nub_rule.specs.Parts.{MayTell, pending_of}
 use Rattle.nub_rule.specs.Places.{bit_at, count_at, alert_at, sem_object, cond_object}
-use Rattle.nub_rule.specs.Plays.{with_part, told, Grows, MayTakeSem, event, p_event, alert_p_event, p_action, v_event, try_p_tells, clear_sem_tells, Becomes}
+use Rattle.nub_rule.specs.Plays.{with_part, recorded, Grows, MayTakeSem, event, p_event, alert_p_event, p_action, v_event, try_p_tells, clear_sem_tells, Becomes}
 use Rattle.nub_rule.specs.Rule.{IsKept}
 use Rattle.nub_rule.proofs.Idle.{idle-live}
 use Rattle.nub_rule.proofs.Members.{member_steps}
@@ -67,17 +67,17 @@ module _ {T H W : Type 0} (l : Layout) (traced : Bool) (w : W) (begin : W → �
   sem-marks : (e : Event) (n s x : ℕ) (b : Bool) (p : Part T H) (failed turns cleared : List ℕ) (words : List ℕ) (homes : List (Option (Slot T))) (all : List (Part T H)) (c : Core l traced w holds words homes all) → get_elem? all n ≡ some p → s < 64 → e.thread.0 ≡ n → IsNamed l e.action → MayTell traced p.life p.pen
       → Acts c.spec e (record c.spec { avail = put c.spec.avail s b }) → Says x (cond b false true)
       → ((q : Part T H) → q.stand ≡ p.stand → q.turns ≡ turns → q.cleared ≡ cleared → WakeOwed c.queue (set words (bit_at (sem_object s)) x) (set all n q))
-      → Marked l traced w holds e n (bit_at (sem_object s)) x p (λ z. record (told p z e) { failed = failed; turns = turns; cleared = cleared }) words homes all
+      → Marked l traced w holds e n (bit_at (sem_object s)) x p (λ z. record (recorded p z e) { failed = failed; turns = turns; cleared = cleared }) words homes all
   sem-marks e n s x b p failed turns cleared words homes all c at low by named may acts says owes = let o : ℕ = sem_object s in let i = bit_at o in let wide = c.sizes.words_wide in
-      marks l traced w holds e n i x p (λ z. record (told p z e) { failed = failed; turns = turns; cleared = cleared }) words homes all c (record c.spec { avail = put c.spec.avail s b }) at by named may
+      marks l traced w holds e n i x p (λ z. record (recorded p z e) { failed = failed; turns = turns; cleared = cleared }) words homes all c (record c.spec { avail = put c.spec.avail s b }) at by named may
       record { bits = λ k up z. omega arith; spins = λ k up z. omega arith; lengths = λ k up z. omega arith; ready = λ k up z. omega arith; pen = λ z. omega arith; number = λ z. omega arith }
       (λ z. record { version = refl; seen = refl; mine = refl; places = refl; held = refl; share = refl; spin = refl; queue = refl; owed = refl; stand = refl; pen = refl }) acts
-      (λ z. shows-sem words (set words i x) c.spinner c.queue c.owner c.spec all n p (record (told p z e) { failed = failed; turns = turns; cleared = cleared }) at refl s b (λ k up. other words i (count_at (cond_object k)) x (λ y. omega arith)) (λ k up ne. other words i (bit_at (sem_object k)) x (λ y. ne (omega arith))) (λ k up. other words i (alert_at k) x (λ y. omega arith))
+      (λ z. shows-sem words (set words i x) c.spinner c.queue c.owner c.spec all n p (record (recorded p z e) { failed = failed; turns = turns; cleared = cleared }) at refl s b (λ k up. other words i (count_at (cond_object k)) x (λ y. omega arith)) (λ k up ne. other words i (bit_at (sem_object k)) x (λ y. ne (omega arith))) (λ k up. other words i (alert_at k) x (λ y. omega arith))
       (subst (λ (z : ℕ). Says z (cond b false true)) (sym (get_or-set_same words i x 0 (omega arith))) says) refl refl refl refl c.shows)
-      (λ z. alert-seen-stays all n p (record (told p z e) { failed = failed; turns = turns; cleared = cleared }) at words i x c.sizes.few (λ k up y. omega arith) refl c.alert_seen)
-      (λ z. lives-frame all n p (record (told p z e) { failed = failed; turns = turns; cleared = cleared }) at words (set words i x) c.sizes.few (lives-stay words i x (λ k up y. omega arith)) refl c.lives)
-      (λ z. owes (record (told p z e) { failed = failed; turns = turns; cleared = cleared }) refl refl refl)
-      (λ z. begun-same words (set words i x) all n p (record (told p z e) { failed = failed; turns = turns; cleared = cleared }) at (waits-stay words i x (λ j lo y. omega arith)) refl refl refl c.begun)
+      (λ z. alert-seen-stays all n p (record (recorded p z e) { failed = failed; turns = turns; cleared = cleared }) at words i x c.sizes.few (λ k up y. omega arith) refl c.alert_seen)
+      (λ z. lives-frame all n p (record (recorded p z e) { failed = failed; turns = turns; cleared = cleared }) at words (set words i x) c.sizes.few (lives-stay words i x (λ k up y. omega arith)) refl c.lives)
+      (λ z. owes (record (recorded p z e) { failed = failed; turns = turns; cleared = cleared }) refl refl refl)
+      (λ z. begun-same words (set words i x) all n p (record (recorded p z e) { failed = failed; turns = turns; cleared = cleared }) at (waits-stay words i x (λ j lo y. omega arith)) refl refl refl c.begun)
 
   p-named : (alertable : Bool) (s : ℕ) → s < l.semaphores → IsNamed l (p_action alertable s)
   p-named true s low = low
@@ -87,13 +87,13 @@ module _ {T H W : Type 0} (l : Layout) (traced : Bool) (w : W) (begin : W → �
       → Allows (IsKept l traced w begin holds) slots id me (bit_at (sem_object s)) (λ x. either (eqb x 0) 1 x) (try_p_tells (p_action alertable) (step slots (bit_at (sem_object s)) 0 1 none) me)
   try_p_at alertable slots id s me low named kind out may = let v = me.0 in let n = v.number in let p = v.part in let o : ℕ = sem_object s in let e = event n (p_action alertable s) in
       member_steps l traced w begin holds slots id (bit_at o) (λ x. either (eqb x 0) 1 x) v me.1
-      (λ r q ds. ((r ≡ 0) × Learns e n p (λ z. record (told p z e) { failed = without o p.failed; turns = without o p.turns; cleared = p.cleared }) q × (ds ≡ me.1)) ⊎ ((r ≢ 0) × (q ≡ record p { failed = o ∷ p.failed; turns = without o p.turns }) × (ds ≡ me.1)))
+      (λ r q ds. ((r ≡ 0) × Learns e n p (λ z. record (recorded p z e) { failed = without o p.failed; turns = without o p.turns; cleared = p.cleared }) q × (ds ≡ me.1)) ⊎ ((r ≢ 0) × (q ≡ record p { failed = o ∷ p.failed; turns = without o p.turns }) × (ds ≡ me.1)))
       (try_p_tells (p_action alertable) (step slots (bit_at o) 0 1 none) me) kind
-      (λ r q ds t. idle-live p q v.child may.0 (⊎_elim (λ (u : (r ≡ 0) × Learns e n p (λ z. record (told p z e) { failed = without o p.failed; turns = without o p.turns; cleared = p.cleared }) q × (ds ≡ me.1)). ap (λ (z : Part T H). z.life) u.1.2) (λ (u : (r ≢ 0) × (q ≡ record p { failed = o ∷ p.failed; turns = without o p.turns }) × (ds ≡ me.1)). ap (λ (z : Part T H). z.life) u.1) t))
+      (λ r q ds t. idle-live p q v.child may.0 (⊎_elim (λ (u : (r ≡ 0) × Learns e n p (λ z. record (recorded p z e) { failed = without o p.failed; turns = without o p.turns; cleared = p.cleared }) q × (ds ≡ me.1)). ap (λ (z : Part T H). z.life) u.1.2) (λ (u : (r ≢ 0) × (q ≡ record p { failed = o ∷ p.failed; turns = without o p.turns }) × (ds ≡ me.1)). ap (λ (z : Part T H). z.life) u.1) t))
       (λ r q ds world t k is. let same : s ≡ k = omega arith in subst (λ (k : ℕ).
-      (r ≡ 0 → (between : List Event) × Grows n p between (event n (p_action alertable k)) × Becomes me (record (told p (p.seen ++ between) (event n (p_action alertable k))) { failed = without (sem_object k) p.failed; turns = without (sem_object k) p.turns }) (with_part v q, ds))
+      (r ≡ 0 → (between : List Event) × Grows n p between (event n (p_action alertable k)) × Becomes me (record (recorded p (p.seen ++ between) (event n (p_action alertable k))) { failed = without (sem_object k) p.failed; turns = without (sem_object k) p.turns }) (with_part v q, ds))
       × (r ≢ 0 → Becomes me (record p { failed = sem_object k ∷ p.failed; turns = without (sem_object k) p.turns }) (with_part v q, ds))) same (⊎_elim
-      (λ (u : (r ≡ 0) × Learns e n p (λ z. record (told p z e) { failed = without o p.failed; turns = without o p.turns; cleared = p.cleared }) q × (ds ≡ me.1)). ((λ _. (u.1.0, u.1.1, λ i. (with_part v (u.1.2 i), u.2 i))), λ miss. absurd (miss u.0)))
+      (λ (u : (r ≡ 0) × Learns e n p (λ z. record (recorded p z e) { failed = without o p.failed; turns = without o p.turns; cleared = p.cleared }) q × (ds ≡ me.1)). ((λ _. (u.1.0, u.1.1, λ i. (with_part v (u.1.2 i), u.2 i))), λ miss. absurd (miss u.0)))
       (λ (u : (r ≢ 0) × (q ≡ record p { failed = o ∷ p.failed; turns = without o p.turns }) × (ds ≡ me.1)). ((λ hit. absurd (u.0 hit)), λ _ i. (with_part v (u.1 i), u.2 i))) t))
       (λ words homes all c at small. let r : ℕ = get_or words (bit_at o) 0 in dite (ℕ_discrete r 0)
       (λ hit.
@@ -124,9 +124,9 @@ module _ {T H W : Type 0} (l : Layout) (traced : Bool) (w : W) (begin : W → �
       → Allows (IsKept l traced w begin holds) slots id me (bit_at (sem_object s)) (λ _. 0) (clear_sem_tells (step slots (bit_at (sem_object s)) 0 0 none) me)
   clear_sem_at slots id s me low named kind out apart may = let v = me.0 in let n = v.number in let p = v.part in let o : ℕ = sem_object s in let e = v_event n s in
       member_steps l traced w begin holds slots id (bit_at o) (λ _. 0) v me.1
-      (λ r q ds. ((r ≡ 0) ⊎ (r ≡ 1)) × Learns e n p (λ z. record (told p z e) { failed = p.failed; turns = p.turns; cleared = o ∷ p.cleared }) q × (ds ≡ me.1)) (clear_sem_tells (step slots (bit_at o) 0 0 none) me) kind
+      (λ r q ds. ((r ≡ 0) ⊎ (r ≡ 1)) × Learns e n p (λ z. record (recorded p z e) { failed = p.failed; turns = p.turns; cleared = o ∷ p.cleared }) q × (ds ≡ me.1)) (clear_sem_tells (step slots (bit_at o) 0 0 none) me) kind
       (λ r q ds t. idle-live p q v.child may.0 (ap (λ (z : Part T H). z.life) t.1.2))
-      (λ r q ds world t k is. let same : s ≡ k = omega arith in subst (λ (k : ℕ). ((r ≡ 0) ⊎ (r ≡ 1)) × (between : List Event) × Grows n p between (v_event n k) × Becomes me (record (told p (p.seen ++ between) (v_event n k)) { cleared = sem_object k ∷ p.cleared }) (with_part v q, ds)) same
+      (λ r q ds world t k is. let same : s ≡ k = omega arith in subst (λ (k : ℕ). ((r ≡ 0) ⊎ (r ≡ 1)) × (between : List Event) × Grows n p between (v_event n k) × Becomes me (record (recorded p (p.seen ++ between) (v_event n k)) { cleared = sem_object k ∷ p.cleared }) (with_part v q, ds)) same
       (t.0, t.1.0, t.1.1, λ i. (with_part v (t.1.2 i), t.2 i)))
       (λ words homes all c at small.
       let idle : c.spec.pending n ≡ Nothing = c.shows.pendings.pends n p at ∙ ap pending_of out in

@@ -24,7 +24,7 @@ use Rattle.nub_rule.proofs.Each.{at_within}
 use Rattle.nub_rule.proofs.Idle.{idle-live, idle-spun}
 use Rattle.nub_rule.proofs.Members.{Steps, member_steps}
 use Rattle.nub_rule.proofs.Frames.{lives-stay, pens-frame, other, bits-stay, ready-stay, shown-stay, pen-stay, alert-seen-stays}
-use Rattle.nub_rule.proofs.Lines.{no_object, not_true, stand_none, distinct-behind, mem-behind, lines-same}
+use Rattle.nub_rule.proofs.Lines.{no_object, not_true, stand_none, distinct-tail_of, mem-tail_of, lines-same}
 use Rattle.nub_rule.proofs.Counting.{room_to_push, small_of}
 use Rattle.nub_rule.proofs.Showing.{shows-spin, shows-unspin}
 use Rattle.nub_rule.proofs.Spinning.{only_here, taken-by, spins-take, spins-give}
@@ -54,7 +54,7 @@ module _ {T H W : Type 0} (l : Layout) (traced : Bool) (w : W) (begin : W → �
       let homes' : List (Option (Slot T)) = set homes (queue_at o) none in
       let lines = c.lines in
       let few = c.sizes.few in
-      let inside : (t : ℕ) → mem t xs ≡ true → mem t (c.owed o ++ c.queue o) ≡ true = λ t there. mem-behind t (c.owed o) xs there in
+      let inside : (t : ℕ) → mem t xs ≡ true → mem t (c.owed o ++ c.queue o) ≡ true = λ t there. mem-tail_of t (c.owed o) xs there in
       let there : mem n xs ≡ true → stands_at p.stand o ≡ true = λ is. ((lines.stands n p at).lined o (inside n is)).0 in (
         q,
         takes (queue_at o) (Queue (queue_of xs)),
@@ -74,7 +74,7 @@ module _ {T H W : Type 0} (l : Layout) (traced : Bool) (w : W) (begin : W → �
           (
             xs,
             c.shows.conditions.count (o - 128),
-            (λ out. let room = room_to_push (length all) n xs (distinct-behind (c.owed o) xs (lines.distinct o)) (λ t is. lines.people o t (inside t is)) (at_within all n p at) (not_true (mem n xs) (λ is. stand_none p.stand o out (there is))) in omega arith),
+            (λ out. let room = room_to_push (length all) n xs (distinct-tail_of (c.owed o) xs (lines.distinct o)) (λ t is. lines.people o t (inside t is)) (at_within all n p at) (not_true (mem n xs) (λ is. stand_none p.stand o out (there is))) in omega arith),
             small_of most_threads xs (λ t is. let a = lines.people o t (inside t is) in omega arith),
             there,
             refl,

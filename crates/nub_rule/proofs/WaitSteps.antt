@@ -27,7 +27,7 @@ use Rattle.nub_rule.specs.Rule.{FitsAs, IsKept}
 use Rattle.nub_rule.proofs.Each.{at_within, at_below, each-set, put-at, put-else}
 use Rattle.nub_rule.proofs.Idle.{idle-waits}
 use Rattle.nub_rule.proofs.Members.{Steps, member_steps}
-use Rattle.nub_rule.proofs.Frames.{lives-frame, lives-stay, lived-frame, SameShown, other, sizes-frame, told-frame, spins-frame, lines-frame, semaphores-frame, alerts-frame, pens-frame, ready-stay, spins-stay, shown-stay, pen-stay, alert-seen-stays}
+use Rattle.nub_rule.proofs.Frames.{lives-frame, lives-stay, lived-frame, SameShown, other, sizes-frame, recorded-frame, spins-frame, lines-frame, semaphores-frame, alerts-frame, pens-frame, ready-stay, spins-stay, shown-stay, pen-stay, alert-seen-stays}
 use Rattle.nub_rule.proofs.SpinSteps.{nobody-by, one-by}
 use Rattle.nub_rule.proofs.Owing.{owes-clear}
 use Rattle.nub_rule.proofs.Beginning.{waits-stay, begun-frame, counted-rebit}
@@ -108,7 +108,7 @@ module _ {T H W : Type 0} (l : Layout) (traced : Bool) (w : W) (begin : W → �
             shares = set c.shares n u;
             sizes = sizes-frame all n p q at l words words' homes homes' (length-set words (bit_at m) 0) (length-set homes (value_at m) (some line)) refl (length-set p.held m None) c.sizes;
             run = c.run;
-            told = told-frame all n p q at l c.log refl refl refl c.told;
+            recorded = recorded-frame all n p q at l c.log refl refl refl c.recorded;
             owned = owned-give l (holds w) c.owner c.values c.shares words homes all n m p q at o wide (omega arith) inside lawful y u own (omega arith) (at_within c.values m x here) (at_within c.shares n s mine.2) (law c.values c.shares o.kept m x y here n s u mine.2 (allowed s mine.1)) refl refl;
             spins = spins-frame all n p q at c.spinner c.queue c.owed words words' homes homes' (spins-stay words (bit_at m) 0 (λ k up z. omega arith) (λ k up z. omega arith)) (λ k lo. set_else homes (value_at m) (queue_at k) (some line) (λ z. omega arith)) refl refl refl c.spins;
             lines = lines-frame all n p q at (λ k. c.owed k ++ c.queue k) words words' c.sizes.few (ready-stay words (bit_at m) 0 (λ k up z. omega arith)) refl c.lines;
@@ -173,7 +173,7 @@ module _ {T H W : Type 0} (l : Layout) (traced : Bool) (w : W) (begin : W → �
           takes (value_at m) (Value (Some x)),
           o.at_home m inside x found.1 free,
           bit_taken l traced w begin holds n m p q x words homes all at inside c hit found.1 record { version = refl; life = refl; held = refl; share = refl; spin = refl; queue = refl; owed = refl; stand = refl; alerted = refl; cleared = refl; turns = refl; raised = refl; counted = λ h. counted-rebit p q refl h b Quiet before (ap quieted before) refl } c.log c.spec c.run
-              (told-frame all n p q at l c.log refl refl refl c.told)
+              (recorded-frame all n p q at l c.log refl refl refl c.recorded)
               (shows-rebit words words' c.spinner c.queue c.owner c.spec all n p q at m b Quiet (some n) (λ j is. some-injective j n (sym is)) (λ _. refl) (c.shows.holders.free m free) (shown-stay words (bit_at m) 1 (λ k up z. omega arith) (λ k up z. omega arith) (λ k up z. omega arith)) refl before (ap quieted before) on refl refl refl c.shows)
               (pens-frame all n p q at traced (length c.log) c.writer words words' (pen-stay words (bit_at m) 1 (λ z. omega arith) (λ z. omega arith)) refl c.pens),
           inl (

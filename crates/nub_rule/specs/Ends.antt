@@ -15,7 +15,7 @@ use Rattle.nub_rule.specs.declared.rule.Slot.TheVariants.{Value, Queue}
 use Rattle.nub_rule.specs.declared.view.Child.TheVariants.{No}
 use Rattle.nub_rule.specs.declared.view.Kind.TheVariants.{Member}
 use Rattle.nub_rule.specs.declared.view.Part.{Part}
-use Rattle.nub_rule.specs.Items.{no_queue, Each, Told, Shared}
+use Rattle.nub_rule.specs.Items.{no_queue, Each, HistoryItem, Shared}
 use Rattle.nub_rule.specs.Parts.{first_part, newborn, number_of}
 use Rattle.nub_rule.specs.Known.{Known, known_as}
 use Rattle.nub_rule.specs.Rule.{begun}
@@ -52,7 +52,7 @@ module _ {T H : Type 0} where
     pub over : AreOver l.version spec.life
     pub nothing_held : (m : ℕ) → spec.holder m ≡ none
     pub nothing_begun : (t : ℕ) → spec.pending t ≡ Nothing
-    pub history : Told l log parts
+    pub history : HistoryItem l log parts
     pub kept : holds values shares
     pub each_share : length shares ≡ length parts
     pub shared : Each (Shared shares) parts

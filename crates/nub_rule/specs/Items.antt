@@ -90,7 +90,7 @@ module _ {T H : Type 0} where
 
   -- HISTORY: the list of all events. Each is by a thread and has names of the layout, each thread
   -- has seen a beginning of the list, and one has seen all of it, unless it is empty
-  pub record Told (l : Layout) (log : List Event) (all : List (Part T H)) : Type 0 where
+  pub record HistoryItem (l : Layout) (log : List Event) (all : List (Part T H)) : Type 0 where
     pub people : Each (λ i e. e.thread.0 < length all) log
     pub names : Each (λ i e. IsNamed l e.action) log
     pub each : Each (Chronicle log) all
@@ -247,7 +247,7 @@ module _ {T H : Type 0} where
     pub shares : List H
     pub sizes : Sizes l words homes all
     pub run : IsRun l.version log spec
-    pub told : Told l log all
+    pub recorded : HistoryItem l log all
     pub owned : Owned l (holds w) owner values shares words homes all
     pub spins : Spins spinner queue owed words homes all
     pub lines : Lines (λ o. owed o ++ queue o) words all

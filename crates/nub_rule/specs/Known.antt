@@ -31,7 +31,7 @@ use Rattle.nub_rule.specs.Items.{queue_of}
 use Rattle.nub_rule.specs.Objects.{object_of, IsGate}
 use Rattle.nub_rule.specs.Parts.{Got, IsAlerted, IsClear, Lacks, left_turns}
 use Rattle.nub_rule.specs.Places.{most_threads, value_at, queue_at, sem_object, cond_object, word_count}
-use Rattle.nub_rule.specs.Plays.{Sat, Grows, behind, less, recounted}
+use Rattle.nub_rule.specs.Plays.{Sat, Grows, tail_of, less, recounted}
 use Rattle.nub_rule.specs.Slots.{find, IsDistinct, Below}
 
 -- what contracts see of a package
@@ -257,7 +257,7 @@ module _ {T H W : Type 0} where
   -- the thread may pop; from the queue of a condition only a thread that an advance has taken out
   -- of the condition
   abbrev pub MayPop : Object → Known T H W → Type 0
-  MayPop (Cond c) k = (k.wait ≡ None) × ((t : ℕ) → mem t (behind k.queue) ≡ false → mem t k.left ≡ false)
+  MayPop (Cond c) k = (k.wait ≡ None) × ((t : ℕ) → mem t (tail_of k.queue) ≡ false → mem t k.left ≡ false)
   MayPop _ k = Unit {0}
 
   -- the thread may take itself out of the queue in which it stands: it found the bit clear at its

@@ -132,9 +132,9 @@ MayTake n m wait e = ((wait ≡ None) × (e ≡ acquire_event n m))
     ⊎ ((w : Wait) × (wait ≡ Some w) × (w.mutex.0 ≡ m) × (w.member ≡ None) × (e ≡ event n (taken_action m (Some w))))
 
 -- all but the first, and the first alone
-abbrev pub behind : List ℕ → List ℕ
-behind [] = []
-behind (x ∷ xs) = xs
+abbrev pub tail_of : List ℕ → List ℕ
+tail_of [] = []
+tail_of (x ∷ xs) = xs
 
 abbrev pub front : List ℕ → List ℕ
 front [] = []
@@ -147,8 +147,8 @@ less t (x ∷ xs) = cond (eqb x t) xs (x ∷ less t xs)
 
 module _ {T H : Type 0} where
   -- the part after this event of its thread
-  abbrev pub told : Part T H → List Event → Event → Part T H
-  told p log e = record p { seen = log ++ e ∷ []; mine = p.mine ++ e ∷ []; places = p.places ++ length log ∷ []; pen = made p.pen }
+  abbrev pub recorded : Part T H → List Event → Event → Part T H
+  recorded p log e = record p { seen = log ++ e ∷ []; mine = p.mine ++ e ∷ []; places = p.places ++ length log ∷ []; pen = made p.pen }
 
   -- the history seen grew to a legal one that ends with the event, and the own events are the
   -- thread's part of it
@@ -201,7 +201,7 @@ module _ {T H W : Type 0} where
       (x : T) × (between : List Event) × ((w : W) (s : H) → v.world ≡ Some w → p.share ≡ Some s → fits w m x v.number s)
       × Grows v.number p between e × Lacks p m × (get_elem? (slice_set p.held m (Some x)) m ≡ some (Some x))
       × (me' ≡ (
-        with_part v (record (told p (p.seen ++ between) e)
+        with_part v (record (recorded p (p.seen ++ between) e)
             { held = slice_set p.held m (Some x); wait = None; failed = without m p.failed; turns = without m p.turns }),
         (value_at m, Value (Some x)) ∷ me.1,
       ))
@@ -234,7 +234,7 @@ module _ {T H W : Type 0} where
   Freed after m me r me' = let v = me.0 in let p = v.part in let e = release_event v.number m in
       (r ≡ 1) × (between : List Event) × (u : Opt H) × Grows v.number p between e
       × (me' ≡ (
-        with_part v (record (told p (p.seen ++ between) e) { held = slice_set p.held m None; share = u; cleared = m ∷ p.cleared }),
+        with_part v (record (recorded p (p.seen ++ between) e) { held = slice_set p.held m None; share = u; cleared = m ∷ p.cleared }),
         rest me.1,
       ))
       × ((w : W) (s : H) (x y : T) → v.world ≡ Some w → p.share ≡ Some s → Got p m x → me.1 ≡ (value_at m, Value (Some y)) ∷ rest me.1
@@ -278,9 +278,9 @@ module _ {T H W : Type 0} where
   abbrev pub pop_gate_tells : Step (Slot T) → Sat T H W → ℕ → Sat T H W → Type 0
   pop_gate_tells st me r me' = let p = me.0.part in (o : ℕ) → st.word ≡ length_at o
       → Becomes me (record p {
-        queue = behind p.queue;
+        queue = tail_of p.queue;
         owed = p.owed ++ front p.queue;
-        left = behind p.left;
+        left = tail_of p.left;
         cleared =
             without o p.cleared;
         looked = without o p.looked;
@@ -291,14 +291,14 @@ module _ {T H W : Type 0} where
   try_p_tells action st me r me' = let v = me.0 in let p = v.part in (s : ℕ) → st.word ≡ bit_at (sem_object s) → let o = sem_object s in
       let e = event v.number (action s) in
       (r ≡ 0 → (between : List Event) × Grows v.number p between e
-      × Becomes me (record (told p (p.seen ++ between) e) { failed = without o p.failed; turns = without o p.turns }) me')
+      × Becomes me (record (recorded p (p.seen ++ between) e) { failed = without o p.failed; turns = without o p.turns }) me')
       × (r ≢ 0 → Becomes me (record p { failed = o ∷ p.failed; turns = without o p.turns }) me')
 
   -- the bit of a semaphore was cleared
   abbrev pub clear_sem_tells : Step (Slot T) → Sat T H W → ℕ → Sat T H W → Type 0
   clear_sem_tells st me r me' = let v = me.0 in let p = v.part in (s : ℕ) → st.word ≡ bit_at (sem_object s) → let e = v_event v.number s in
       ((r ≡ 0) ⊎ (r ≡ 1)) × (between : List Event) × Grows v.number p between e
-      × Becomes me (record (told p (p.seen ++ between) e) { cleared = sem_object s ∷ p.cleared }) me'
+      × Becomes me (record (recorded p (p.seen ++ between) e) { cleared = sem_object s ∷ p.cleared }) me'
 
   -- the bit of the mutex m was cleared in a wait, and the value handed over: nobody holds m from
   -- the start of the wait
@@ -319,7 +319,7 @@ module _ {T H W : Type 0} where
       (m c : ℕ) (s : Slot T) → st.word ≡ count_at (cond_object c) → me.1 ≡ (value_at m, s) ∷ rest me.1
       → let e = enqueue_event alertable v.number m c in
       (between : List Event) × Grows v.number p between e
-      × Becomes me (record (told p (p.seen ++ between) e) { wait = Some (begun_wait alertable m c r) }) me'
+      × Becomes me (record (recorded p (p.seen ++ between) e) { wait = Some (begun_wait alertable m c r) }) me'
 
   -- the count was read under the spin word
   abbrev pub know_count_tells : Step (Slot T) → Sat T H W → ℕ → Sat T H W → Type 0
@@ -346,7 +346,7 @@ module _ {T H W : Type 0} where
   -- the first, if there is one, left the queue of a condition, and is owed its ready word: an
   -- advance had taken it out of the condition
   abbrev pub pop_cond_tells : Step (Slot T) → Sat T H W → ℕ → Sat T H W → Type 0
-  pop_cond_tells st me r me' = let p = me.0.part in Becomes me (record p { queue = behind p.queue; owed = p.owed ++ front p.queue }) me'
+  pop_cond_tells st me r me' = let p = me.0.part in Becomes me (record p { queue = tail_of p.queue; owed = p.owed ++ front p.queue }) me'
 
   -- the thread left the queue of a condition, in which it was, and is in the condition by the
   -- present count
@@ -360,7 +360,7 @@ module _ {T H W : Type 0} where
   advance_tells leave action st me r me' = let v = me.0 in let p = v.part in
       (c : ℕ) → st.word ≡ count_at (cond_object c) → let ys = leave p.queue in let e = event v.number (action c ys) in
       (r ≡ p.count) × Distinct p.queue × (between : List Event) × Grows v.number p between e
-      × Becomes me (record (told p (p.seen ++ between) e) { left = ys; count = p.count + 1; calling = None }) me'
+      × Becomes me (record (recorded p (p.seen ++ between) e) { left = ys; count = p.count + 1; calling = None }) me'
 
   -- the waiters count of the condition c was raised
   abbrev pub raise_waits_tells : Step (Slot T) → Sat T H W → ℕ → Sat T H W → Type 0
@@ -375,7 +375,7 @@ module _ {T H W : Type 0} where
   abbrev pub read_waits_tells : (ℕ → List ℕ → Action) → Step (Slot T) → Sat T H W → ℕ → Sat T H W → Type 0
   read_waits_tells action st me r me' = let v = me.0 in let p = v.part in
       (c : ℕ) → st.word ≡ waits_at (cond_object c) → let e = event v.number (action c []) in
-      (r ≡ 0 → (between : List Event) × Grows v.number p between e × Becomes me (told p (p.seen ++ between) e) me')
+      (r ≡ 0 → (between : List Event) × Grows v.number p between e × Becomes me (recorded p (p.seen ++ between) e) me')
       × (r ≢ 0 → Becomes me (record p { calling = Some c }) me')
 
   -- the thread's own alert word was read
@@ -388,13 +388,13 @@ module _ {T H W : Type 0} where
   abbrev pub or_alert_tells : Step (Slot T) → Sat T H W → ℕ → Sat T H W → Type 0
   or_alert_tells st me r me' = let v = me.0 in let p = v.part in
       (t : ℕ) → t < most_threads → st.word ≡ alert_at t → let e = alert_event v.number t in
-      (between : List Event) × Grows v.number p between e × Becomes me (told p (p.seen ++ between) e) me'
+      (between : List Event) × Grows v.number p between e × Becomes me (recorded p (p.seen ++ between) e) me'
 
   -- the thread's own alert word was cleared, by the event that says what it was
   abbrev pub swap_alert_tells : Step (Slot T) → Sat T H W → ℕ → Sat T H W → Type 0
   swap_alert_tells st me r me' = let v = me.0 in let p = v.part in let e = test_alert_event v.number (eqb r 1) in
       ((r ≡ 0) ⊎ (r ≡ 1)) × (p.alerted ≡ true → r ≡ 1) × (between : List Event) × Grows v.number p between e
-      × Becomes me (record (told p (p.seen ++ between) e) { alerted = false }) me'
+      × Becomes me (record (recorded p (p.seen ++ between) e) { alerted = false }) me'
 
   -- the thread's own alert word was cleared to raise out of a P of the semaphore s, which the mask
   -- names
@@ -402,7 +402,7 @@ module _ {T H W : Type 0} where
   swap_alert_in_p_tells st me r me' = let v = me.0 in let p = v.part in
       (s : ℕ) → st.first ≡ 2 * s → let e = alert_p_raise_event v.number s in
       (r ≡ 1) × (between : List Event) × Grows v.number p between e
-      × Becomes me (record (told p (p.seen ++ between) e) { alerted = false }) me'
+      × Becomes me (record (recorded p (p.seen ++ between) e) { alerted = false }) me'
 
   -- the thread's own alert word was cleared to raise out of an alertable wait, with the bit of its
   -- mutex taken
@@ -410,7 +410,7 @@ module _ {T H W : Type 0} where
   swap_alert_in_raise_tells st me r me' = let v = me.0 in let p = v.part in
       (x : Wait) → p.wait ≡ Some x → let e = alert_raise_event v.number x.mutex.0 x.cond.0 in
       (r ≡ 1) × (between : List Event) × Grows v.number p between e
-      × Becomes me (record (told p (p.seen ++ between) e) { wait = None; alerted = false }) me'
+      × Becomes me (record (recorded p (p.seen ++ between) e) { wait = None; alerted = false }) me'
 
   -- the thread left the queue of a semaphore, in which it was
   abbrev pub leave_sem_queue_tells : Step (Slot T) → Sat T H W → ℕ → Sat T H W → Type 0
@@ -422,18 +422,18 @@ module _ {T H W : Type 0} where
   fork_life_tells st me r me' = let v = me.0 in let p = v.part in
       (t : ℕ) → t < most_threads → st.word ≡ life_at t → let e = fork_event v.number t in
       (t ≢ v.number) × (between : List Event) × Grows v.number p between e
-      × (me' ≡ (record v { part = told p (p.seen ++ between) e; child = Forked t ((p.seen ++ between) ++ e ∷ []) }, me.1))
+      × (me' ≡ (record v { part = recorded p (p.seen ++ between) e; child = Forked t ((p.seen ++ between) ++ e ∷ []) }, me.1))
 
   -- the thread ended
   abbrev pub end_life_tells : Step (Slot T) → Sat T H W → ℕ → Sat T H W → Type 0
   end_life_tells st me r me' = let v = me.0 in let p = v.part in let e = end_event v.number in
-      (between : List Event) × Grows v.number p between e × Becomes me (record (told p (p.seen ++ between) e) { life = Ended }) me'
+      (between : List Event) × Grows v.number p between e × Becomes me (record (recorded p (p.seen ++ between) e) { life = Ended }) me'
 
   -- the life word of the thread t was read: if it has ended, that is the event
   abbrev pub read_life_tells : Step (Slot T) → Sat T H W → ℕ → Sat T H W → Type 0
   read_life_tells st me r me' = let v = me.0 in let p = v.part in
       (t : ℕ) → t < most_threads → st.word ≡ life_at t → let e = join_event v.number t in
-      (r ≡ 2 → (between : List Event) × Grows v.number p between e × Becomes me (told p (p.seen ++ between) e) me') × (r ≢ 2 → me' ≡ me)
+      (r ≡ 2 → (between : List Event) × Grows v.number p between e × Becomes me (recorded p (p.seen ++ between) e) me') × (r ≢ 2 → me' ≡ me)
 
   -- the pen was tried, the number read and written, and the pen given back
   abbrev pub take_pen_tells : Step (Slot T) → Sat T H W → ℕ → Sat T H W → Type 0

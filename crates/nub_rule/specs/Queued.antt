@@ -26,7 +26,7 @@ module _ {T H W : Type 0} where
     pub allowed : IsLawful l → (slots id : ℕ) (me : Sat T H W) → me.0.kind ≡ Member → me.0.number ≡ k.number → me.0.part ≡ part_of k
         → Allows rule slots id me (length_at o) (λ _. length zs) (λ _. tells (step slots (length_at o) (length zs) 0 none) me (length zs))
     pub change : ℕ → Part T H → Part T H
-    pub told : Tells tells o change
+    pub recorded : Tells tells o change
     pub held : (change k.number (part_of k)).held ≡ k.held
     pub spin : (change k.number (part_of k)).spin ≡ k.spin
     pub queue : (change k.number (part_of k)).queue ≡ zs

@@ -35,6 +35,6 @@ abbrev pub starts_with : List ℕ → ℕ → Bool
 starts_with [] k = false
 starts_with (x ∷ xs) k = eqb x k
 
-abbrev pub behind_first : List ℕ → List ℕ
-behind_first [] = []
-behind_first (x ∷ xs) = xs
+abbrev pub past_first : List ℕ → List ℕ
+past_first [] = []
+past_first (x ∷ xs) = xs

@@ -213,9 +213,9 @@ impl<T, H, W> Play<Slot<T>, View<T, H, W>> for KnowCount {
 pub struct AdvanceSignal;
 
 impl<T, H, W> Play<Slot<T>, View<T, H, W>> for AdvanceSignal {
-    ghost use Rattle.nub_rule.specs.Plays.{advance_tells, behind, signal_action};
+    ghost use Rattle.nub_rule.specs.Plays.{advance_tells, tail_of, signal_action};
 
-    ghost then = { advance_tells behind signal_action };
+    ghost then = { advance_tells tail_of signal_action };
 }
 
 /// Advances a count by a Broadcast.

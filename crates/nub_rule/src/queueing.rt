@@ -3,7 +3,7 @@
 ghost use Rattle.std.specs.Prelude.{◌≡◌, ◌++◌, ◌∷◌, [], Some, None, true, false};
 ghost use Rattle.larch_actions.specs.Sets.{mem};
 ghost use Rattle.nub_rule.specs.Objects.{object_of};
-ghost use Rattle.nub_rule.specs.Plays.{behind, less};
+ghost use Rattle.nub_rule.specs.Plays.{tail_of, less};
 ghost use Rattle.nub_rule.specs.Queued.{MayRequeue, Requeued};
 ghost use Rattle.nub_rule.specs.Rule.{IsKept};
 
@@ -48,8 +48,8 @@ pub(crate) fn pop<M: Play<Slot<U::Value>, View<U::Value, U::Share, U::World>>, U
     requires of { me.old.table_id ≡ p.now.table_id }
     requires inside { me.old.spin ≡ Some (object_of at) }
     requires may { MayRequeue (IsKept p.now.layout p.now.traced p.now.world U.begin U.holds) M.then p.now.layout me.old (object_of at)
-        (behind me.old.queue) (me.old.stand ≡ None) }
-    ensures { (result ≡ None → me.old.queue ≡ []) × ((t : ThreadId) → result ≡ Some t → me.old.queue ≡ t.0 ∷ behind me.old.queue)
+        (tail_of me.old.queue) (me.old.stand ≡ None) }
+    ensures { (result ≡ None → me.old.queue ≡ []) × ((t : ThreadId) → result ≡ Some t → me.old.queue ≡ t.0 ∷ tail_of me.old.queue)
         × Requeued M.then (object_of at) me.old me.new }
 {
     let o = at.number();

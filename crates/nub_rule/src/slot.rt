@@ -5,7 +5,7 @@ ghost use Rattle.larch_actions.specs.Sets.{mem, set_of};
 ghost use Rattle.nub_rule.specs.declared.rule.Slot.TheVariants.{Queue};
 ghost use Rattle.nub_rule.specs.Items.{queue_of, Small};
 ghost use Rattle.nub_rule.specs.Places.{most_threads};
-ghost use Rattle.nub_rule.specs.Plays.{behind, less};
+ghost use Rattle.nub_rule.specs.Plays.{tail_of, less};
 
 use crate::rule::{Queue, Slot};
 use larch_actions::{ThreadId, ThreadSet};
@@ -27,8 +27,8 @@ pub fn push_slot<T>(slot: &mut Slot<T>, t: u32) -> u64
 /// Takes the first thread out, if there is one, and returns it with the new length.
 pub fn pop_slot<T>(slot: &mut Slot<T>) -> (Option<ThreadId>, u64)
     requires { (xs : List ℕ) × (slot.old ≡ Queue (queue_of xs)) }
-    ensures { (xs : List ℕ) → slot.old ≡ Queue (queue_of xs) → (slot.new ≡ Queue (queue_of (behind xs))) × (result.1 ≡ length (behind xs))
-        × (result.0 ≡ None → xs ≡ []) × ((t : ThreadId) → result.0 ≡ Some t → xs ≡ t.0 ∷ behind xs) }
+    ensures { (xs : List ℕ) → slot.old ≡ Queue (queue_of xs) → (slot.new ≡ Queue (queue_of (tail_of xs))) × (result.1 ≡ length (tail_of xs))
+        × (result.0 ≡ None → xs ≡ []) × ((t : ThreadId) → result.0 ≡ Some t → xs ≡ t.0 ∷ tail_of xs) }
 {
     let Slot::Queue(queue) = slot else {
         unreachable!()
@@ -71,9 +71,9 @@ pub fn leave_slot<T>(slot: &mut Slot<T>, t: u32) -> Option<u64>
 }
 
 // Returns the set of the threads after the first.
-fn behind_set(queue: &Queue) -> ThreadSet
+fn after_set(queue: &Queue) -> ThreadSet
     requires { Small most_threads queue.now.items }
-    ensures { result ≡ set_of (behind queue.now.items) }
+    ensures { result ≡ set_of (tail_of queue.now.items) }
 {
     let mut set = ThreadSet::empty();
     let mut i = queue.len();
@@ -85,12 +85,12 @@ fn behind_set(queue: &Queue) -> ThreadSet
 }
 
 /// Returns the set of the threads after the first.
-pub fn set_behind<T>(slot: &Slot<T>) -> ThreadSet
+pub fn set_past<T>(slot: &Slot<T>) -> ThreadSet
     requires { (xs : List ℕ) × (slot.now ≡ Queue (queue_of xs)) × Small most_threads xs }
-    ensures { (xs : List ℕ) → slot.now ≡ Queue (queue_of xs) → result ≡ set_of (behind xs) }
+    ensures { (xs : List ℕ) → slot.now ≡ Queue (queue_of xs) → result ≡ set_of (tail_of xs) }
 {
     let Slot::Queue(queue) = slot else {
         unreachable!()
     };
-    behind_set(queue)
+    after_set(queue)
 }

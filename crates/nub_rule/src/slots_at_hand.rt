@@ -29,7 +29,7 @@ impl Model for Hand {
 impl Hand {
     ghost use Rattle.std.specs.Prelude.{◌≡◌, [], ◌∷◌, ◌<◌, ◌≤◌, length};
     ghost use Rattle.larch_actions.specs.Sets.{mem};
-    ghost use Rattle.nub_rule.specs.Slots.{behind_first, turned_hand, starts_with};
+    ghost use Rattle.nub_rule.specs.Slots.{past_first, turned_hand, starts_with};
 
     pub fn new() -> Hand
         ensures { result ≡ [] }
@@ -77,7 +77,7 @@ impl Hand {
     /// Drops the first slot.
     #[inline]
     pub fn give(&mut self)
-        ensures { self.new ≡ behind_first self.old }
+        ensures { self.new ≡ past_first self.old }
     {
         self.top = self.below.pop();
     }

@@ -4,7 +4,7 @@ use Rattle.larch_actions.specs.declared.event.Event.{Event}
 use Rattle.nub_rule.specs.Items.{Each}
 use Rattle.nub_rule.specs.Known.{Known, Shape}
 use Rattle.nub.specs.Ended.{KeepsLocks}
-use Rattle.nub.proofs.Users.{all_told, share_count}
+use Rattle.nub.proofs.Users.{all_recorded, share_count}
 use Rattle.package_crew.specs.Crews.{CameBack}
 use Rattle.package_crew.specs.Runs.{HasDone, HasWorked, HaveWorked}
 
@@ -24,5 +24,5 @@ have_worked {T} {H} {W} {X} p holds did first threads values left numbered back 
       each_share = locks.each_share;
       count = share_count threads locks.shares locks.each_share ∙ sym many;
       kept = locks.kept;
-      each = all_told (HasWorked did threads left) threads locks.shares locks.each_share each;
+      each = all_recorded (HasWorked did threads left) threads locks.shares locks.each_share each;
     }

@@ -2,7 +2,7 @@
 ghost use Rattle.std.specs.Prelude.{◌≡◌, ◌≤◌, ℕ, [], map, length, IfOk, IfErr, vec_len, vec_capacity};
 ghost use Rattle.nub_rule.specs.Items.{Each};
 ghost use Rattle.package_crew.specs.Crews.{CameBack};
-ghost use Rattle.thread_crew.specs.Crews.{Told};
+ghost use Rattle.thread_crew.specs.Crews.{IsHeldCount};
 
 use std::alloc::{AllocError, Global};
 use std::sync::Wait;
@@ -23,7 +23,7 @@ pub struct Beside<T, X, Y> {
 }
 
 /// Splits the pairs into a list of the first parts and a list of the second parts.
-fn parted<T: Drop, X: Drop>(
+fn split<T: Drop, X: Drop>(
     pairs: Vec<(T, X)>,
     mut firsts: Vec<T>,
     mut seconds: Vec<X>,
@@ -132,12 +132,12 @@ pub fn at_once_beside<
     between: M,
 ) -> Result<Beside<T, X, Y>, NotRun<T, O, M>>
     requires threads { Each (λ n t. F.pre f.now t) threads.items }
-    requires between { (held : ℕ) → Told starts (length threads.items) held → M.pre between own held }
+    requires between { (held : ℕ) → IsHeldCount starts (length threads.items) held → M.pre between own held }
     ensures threads { IfOk result (λ r. length r.threads.items ≡ length threads.items) }
     ensures results { IfOk result (λ r. length r.left.items ≡ length threads.items) }
     ensures each { IfOk result (λ r. Each (λ n t. CameBack (λ was left. F.post f.now was (t, left)) threads.items r.left.items n)
         r.threads.items) }
-    ensures held { IfOk result (λ r. Told starts (length threads.items) r.held) }
+    ensures held { IfOk result (λ r. IsHeldCount starts (length threads.items) r.held) }
     ensures between { IfOk result (λ r. M.post between own r.held r.between) }
     ensures threads_back { IfErr result (λ back. back.jobs.items ≡ threads.items) }
     ensures own_back { IfErr result (λ back. back.own ≡ own) }
@@ -166,7 +166,7 @@ pub fn at_once_beside<
                 between,
             },
         ) => {
-            let (threads, left) = parted(results, firsts, seconds);
+            let (threads, left) = split(results, firsts, seconds);
             Ok(Beside {
                 threads,
                 left,

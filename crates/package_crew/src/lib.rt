@@ -13,9 +13,9 @@
 
 mod before_start;
 mod crews;
-mod running;
+mod run;
 
 pub use before_start::{BeforeStart, BeginsAtOnce};
 pub use crews::{Beside, at_once, at_once_beside};
-pub use running::{Work, run_package};
+pub use run::{Work, run_package};
 pub use thread_crew::NotRun;

@@ -3,7 +3,7 @@ use Rattle.std.specs.Prelude.{◌≡◌, ◌≢◌}
 use Rattle.firefly_outside.specs.Causes.{Rose}
 use Rattle.trace_check.specs.declared.checker.Verdict.{Verdict}
 use Rattle.trace_check.specs.declared.checker.Verdict.TheVariants as verdict
-use Rattle.trace_explain.specs.Told.{GotText, GotPrefix}
+use Rattle.trace_explain.specs.Explained.{GotText, GotPrefix}
 use Rattle.command_endings.specs.declared.status.Status.{Status}
 use Rattle.command_endings.specs.declared.status.Status.TheVariants.{SinkFault}
 use Rattle.command_endings.specs.Changes.{Change, IsStill, Notes}

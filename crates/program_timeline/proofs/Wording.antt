@@ -1,20 +1,20 @@
 -- What four words ask for.
 use Rattle.std.proofs.Common.{◌≡◌, inl, inr, ℕ, List, [], ◌∷◌, ◌++◌, length, get_or, sym, arith, Option, Some, None}
 use Rattle.std.specs.Prelude.{IfSome, IfNone}
-use Rattle.trace_shapes.specs.declared.view.View.{View}
+use Rattle.trace_shapes.specs.declared.view.DrawnRange.{DrawnRange}
 use Rattle.program_timeline.specs.Words.{AsksFor, AsksOrdered, IsPair, Wants, view_between}
 
 -- four words of which two say the first bound and two the second ask for what lies between
-abbrev IsUp : List ℕ → List ℕ → List ℕ → List ℕ → View → Type 0
+abbrev IsUp : List ℕ → List ℕ → List ℕ → List ℕ → DrawnRange → Type 0
 IsUp a b c d v = (k n : ℕ) × IsPair (a ∷ b ∷ []) (c ∷ d ∷ []) k n × (v ≡ view_between (Some k) (Some n))
 
-pub up_asks : (a b c d : List ℕ) (v : View) → IsUp a b c d v → AsksFor (a ∷ b ∷ c ∷ d ∷ []) v
+pub up_asks : (a b c d : List ℕ) (v : DrawnRange) → IsUp a b c d v → AsksFor (a ∷ b ∷ c ∷ d ∷ []) v
 up_asks a b c d v (k, n, p, e) = (Some k, Some n, record { spelt = inl (λ i. p.0 i ++ p.1 i); first = p.2; last = p.3 }, e)
 
-pub down_asks : (a b c d : List ℕ) (v : View) → IsUp c d a b v → AsksFor (a ∷ b ∷ c ∷ d ∷ []) v
+pub down_asks : (a b c d : List ℕ) (v : DrawnRange) → IsUp c d a b v → AsksFor (a ∷ b ∷ c ∷ d ∷ []) v
 down_asks a b c d v (k, n, p, e) = (Some k, Some n, record { spelt = inr (λ i. p.1 i ++ p.0 i); first = p.2; last = p.3 }, e)
 
-pub down_some : (a b c d : List ℕ) (r : Option View) → IfSome r (IsUp c d a b) → IfSome r (AsksFor (a ∷ b ∷ c ∷ d ∷ []))
+pub down_some : (a b c d : List ℕ) (r : Option DrawnRange) → IfSome r (IsUp c d a b) → IfSome r (AsksFor (a ∷ b ∷ c ∷ d ∷ []))
 down_some a b c d None h = tt
 down_some a b c d (Some v) h = down_asks a b c d v h
 
@@ -41,12 +41,12 @@ four_items (x ∷ y ∷ z ∷ []) a b c d e p q r s = absurd (omega (arith, e))
 four_items (x ∷ y ∷ z ∷ w ∷ []) a b c d e p q r s = λ i. sym p i ∷ sym q i ∷ sym r i ∷ sym s i ∷ []
 four_items (x ∷ y ∷ z ∷ w ∷ v ∷ xs) a b c d e p q r s = absurd (omega (arith, e))
 
--- what is found, or not, behind the first word is so of all of them
-pub wants_some : (words : List (List ℕ)) (r : Option View) → IfSome r (AsksOrdered words) → IfSome r (Wants words)
+-- what is found, or not, after the first word is so of all of them
+pub wants_some : (words : List (List ℕ)) (r : Option DrawnRange) → IfSome r (AsksOrdered words) → IfSome r (Wants words)
 wants_some words None h = tt
 wants_some words (Some v) h = inr h
 
-pub wants_none : (words : List (List ℕ)) (r : Option View) → ((v : View) → AsksFor words v → ⊥) → IfNone r ((v : View) → AsksOrdered words v → ⊥) → IfNone r ((v : View) → Wants words v → ⊥)
+pub wants_none : (words : List (List ℕ)) (r : Option DrawnRange) → ((v : DrawnRange) → AsksFor words v → ⊥) → IfNone r ((v : DrawnRange) → AsksOrdered words v → ⊥) → IfNone r ((v : DrawnRange) → Wants words v → ⊥)
 wants_none words (Some v) never h = tt
 wants_none words None never h = λ v w. elim w [
   | inl a ↦ never v a

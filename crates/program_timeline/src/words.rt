@@ -1,34 +1,34 @@
 //! The words of the command line.
 ghost use Rattle.std.specs.Prelude.{◌≡◌, ◌^◌, ◌<◌, ◌↔◌, ℕ, [], ◌∷◌, codes, decimal, map, IsTrue, Some, IfSome, IfNone};
 ghost use Rattle.std.specs.String.{string_bytes};
-ghost use Rattle.trace_shapes.specs.declared.view.View.{View};
+ghost use Rattle.trace_shapes.specs.declared.view.DrawnRange.{DrawnRange};
 ghost use Rattle.program_timeline.specs.Words.{AsksFor, AsksOrdered, IsPair, Requests, Wants};
 ghost use Rattle.program_timeline.specs.declared.words.Request.{Request};
 ghost use Rattle.program_timeline.specs.Words as asked;
 
 use std::string::String;
 use text_output::read_number;
-use trace_shapes::View;
+use trace_shapes::DrawnRange;
 
 /// What the words ask for: a picture of a part of the trace, or its events as JSON.
 #[derive(Clone, Copy, Debug, PartialEq, Eq)]
 pub enum Request {
-    Picture(View),
+    Picture(DrawnRange),
     Json,
 }
 
 // The part between two bounds, where there are any.
-fn view_between(from: Option<u64>, to: Option<u64>) -> View
+fn view_between(from: Option<u64>, to: Option<u64>) -> DrawnRange
     ensures { result ≡ asked.view_between from to }
 {
     let first = from.unwrap_or(0);
     match to {
-        Some(to) => View {
+        Some(to) => DrawnRange {
             first,
             end: to.saturating_add(1),
             ordered: false,
         },
-        None => View {
+        None => DrawnRange {
             first,
             end: u64::MAX,
             ordered: false,
@@ -49,9 +49,9 @@ fn read_bound(name: &str, wanted: &str, number: &str) -> Option<u64>
 }
 
 // The part that one bound asks for.
-fn read_one(name: &str, number: &str) -> Option<View>
+fn read_one(name: &str, number: &str) -> Option<DrawnRange>
     ensures found { IfSome result (AsksFor (name.now ∷ number.now ∷ [])) }
-    ensures none { IfNone result ((v : View) → AsksFor (name.now ∷ number.now ∷ []) v → ⊥) }
+    ensures none { IfNone result ((v : DrawnRange) → AsksFor (name.now ∷ number.now ∷ []) v → ⊥) }
 {
     if let Some(from) = read_bound(name, "--from", number) {
         return Some(view_between(Some(from), None));
@@ -63,7 +63,7 @@ fn read_one(name: &str, number: &str) -> Option<View>
 }
 
 // The part that two bounds ask for, the lower in front.
-fn read_up(name: &str, number: &str, other: &str, last: &str) -> Option<View>
+fn read_up(name: &str, number: &str, other: &str, last: &str) -> Option<DrawnRange>
     ensures found { IfSome result (λ v. (k n : ℕ) × IsPair (name.now ∷ number.now ∷ []) (other.now ∷ last.now ∷ []) k n
         × (v ≡ asked.view_between (Some k) (Some n))) }
     ensures none { IfNone result ((k n : ℕ) → IsPair (name.now ∷ number.now ∷ []) (other.now ∷ last.now ∷ []) k n → ⊥) }
@@ -78,9 +78,9 @@ fn read_up(name: &str, number: &str, other: &str, last: &str) -> Option<View>
 }
 
 // The part that two bounds ask for.
-fn read_two(name: &str, number: &str, other: &str, last: &str) -> Option<View>
+fn read_two(name: &str, number: &str, other: &str, last: &str) -> Option<DrawnRange>
     ensures found { IfSome result (AsksFor (name.now ∷ number.now ∷ other.now ∷ last.now ∷ [])) }
-    ensures none { IfNone result ((v : View) → AsksFor (name.now ∷ number.now ∷ other.now ∷ last.now ∷ []) v → ⊥) }
+    ensures none { IfNone result ((v : DrawnRange) → AsksFor (name.now ∷ number.now ∷ other.now ∷ last.now ∷ []) v → ⊥) }
 {
     if let Some(view) = read_up(name, number, other, last) {
         return Some(view);
@@ -90,9 +90,9 @@ fn read_two(name: &str, number: &str, other: &str, last: &str) -> Option<View>
 
 // The part of the trace that the words ask for: all of it, from an event on, up to an event, or both. There is none where they ask for
 // nothing of this kind.
-fn read_view(said: &[String]) -> Option<View>
+fn read_view(said: &[String]) -> Option<DrawnRange>
     ensures found { IfSome result (AsksFor (map string_bytes said.now)) }
-    ensures none { IfNone result ((v : View) → AsksFor (map string_bytes said.now) v → ⊥) }
+    ensures none { IfNone result ((v : DrawnRange) → AsksFor (map string_bytes said.now) v → ⊥) }
 {
     match said {
         [] => Some(view_between(None, None)),
@@ -110,15 +110,15 @@ fn read_view(said: &[String]) -> Option<View>
 }
 
 // The part that the words ask for after the word for the lock order.
-fn read_ordered(word: &str, rest: &[String]) -> Option<View>
+fn read_ordered(word: &str, rest: &[String]) -> Option<DrawnRange>
     ensures found { IfSome result (AsksOrdered (word.now ∷ map string_bytes rest.now)) }
-    ensures none { IfNone result ((v : View) → AsksOrdered (word.now ∷ map string_bytes rest.now) v → ⊥) }
+    ensures none { IfNone result ((v : DrawnRange) → AsksOrdered (word.now ∷ map string_bytes rest.now) v → ⊥) }
 {
     if word != "--order" {
         return None;
     }
     match read_view(rest) {
-        Some(view) => Some(View {
+        Some(view) => Some(DrawnRange {
             first: view.first,
             end: view.end,
             ordered: true,
@@ -128,9 +128,9 @@ fn read_ordered(word: &str, rest: &[String]) -> Option<View>
 }
 
 // The part of the trace that the words ask for, and whether with the lock order. There is none where they ask for nothing of this kind.
-fn read_words(said: &[String]) -> Option<View>
+fn read_words(said: &[String]) -> Option<DrawnRange>
     ensures found { IfSome result (Wants (map string_bytes said.now)) }
-    ensures none { IfNone result ((v : View) → Wants (map string_bytes said.now) v → ⊥) }
+    ensures none { IfNone result ((v : DrawnRange) → Wants (map string_bytes said.now) v → ⊥) }
 {
     if let Some(view) = read_view(said) {
         return Some(view);

@@ -97,14 +97,14 @@ module _ {A B : Type 0} (f : A → B) where
   slice_seam [] ys m = refl
   slice_seam (x ∷ xs) ys m = slice_seam xs ys m
 
--- the first place of u is that behind those that are not u
+-- the first place of u is that after those that are not u
 first_is : (ns rest : List ℕ) (u k : ℕ) → Lacks u ns → ((n : ℕ) → n < k → slice_get (ns ++ u ∷ rest) n ≢ Some u) → slice_get (ns ++ u ∷ rest) k ≡ Some u → k ≡ length ns
 first_is [] rest u zero lacks first at = refl
 first_is [] rest u (suc k) lacks first at = absurd (first 0 (omega arith) refl)
 first_is (n ∷ ns) rest u zero lacks first at = absurd (lacks.0 (same_Some n u at))
 first_is (n ∷ ns) rest u (suc k) lacks first at = ap suc (first_is ns rest u k lacks.1 (λ j low. first (suc j) (omega arith)) at)
 
--- The thread t stands in the last slot and forks u at the line i: the slots of u's region, with u's own behind them, stand before those that t forks later.
+-- The thread t stands in the last slot and forks u at the line i: the slots of u's region, with u's own after them, stand before those that t forks later.
 pub record Parted (p : Shape (Prim.Unit {0})) (xs : List Line) (i t u : ℕ) (slots : List Slot) : Type 0 where
   pub upper : List Slot
   pub right : Player
@@ -231,7 +231,7 @@ module _ (p : Shape (Prim.Unit {0})) (xs : List Line) (i t u : ℕ) (slots : Lis
   pub taken : (x : Slot) (n : ℕ) → n + 1 ≡ length slots → set slots n x ≡ shaped (slot.Unborn d.right) x
   taken x n e = ap (λ l. set l n x) d.is ∙ put_last (slot.Unborn d.right) d.last x n e
 
-  -- u's place is found behind it
+  -- u's place is found after it
   pub there : (x : Slot) (n : ℕ) → n + 1 ≡ length slots → (k : ℕ) × (k < length (set slots n x)) × (slice_get (map slot_number (set slots n x)) k ≡ Some u)
   there x n e =
       let l = long in

@@ -78,7 +78,7 @@ each_snoc P (q ∷ rs) r all h = (all.0, each_snoc P rs r all.1 h)
 pub regions_snoc : (p : Shape (Prim.Unit {0})) (xs : List Line) (s r : List Slot) → AreRegions p xs s → IsRegion p xs r → AreRegions p xs (s ++ r)
 regions_snoc p xs s r g h = record { regions = g.regions ++ r ∷ []; each = each_snoc (IsRegion p xs) g.regions r g.each h; are = ap (λ l. l ++ r) g.are ∙ sym (joined_snoc g.regions r) }
 
--- where a slot goes on, a region ends, and the others begin behind it
+-- where a slot goes on, a region ends, and the others begin after it
 cut_joined : (p : Shape (Prim.Unit {0})) (xs : List Line) (rs : List (List Slot)) (k : ℕ) → AllByRecursion (IsRegion p xs) rs → 0 < k → k < length (joined rs) → EndsLive (take k (joined rs)) → AreRegions p xs (take k (joined rs)) × AreRegions p xs (drop k (joined rs))
 cut_joined p xs [] k all any low e = absurd (omega arith)
 cut_joined p xs (r ∷ rs) k all any low e =
@@ -145,7 +145,7 @@ not_here slots k s any low is not e =
     let same = snoc_same g.prefix (take (k - 1) slots) g.last s (sym g.split ∙ (take_more slots (k - 1) s (omega arith) ∙ ap (λ x. take (k - 1) slots ++ x ∷ []) (sym is))) in
     not (ap is_live (sym same.1) ∙ g.live)
 
--- Behind the first slots, those of threads that were forked, a thread goes on: it forks another, or has ended.
+-- After the first slots, those of threads that were forked, a thread goes on: it forks another, or has ended.
 module _ (p : Shape (Prim.Unit {0})) (xs : List Line) (before slots prefix rest new : List Slot) (at : ℕ) (low : at < length slots) (first : AreRegions p xs (take at slots)) (numbers : map slot_number slots ≡ map slot_number before) (is_prefix : prefix ≡ take at slots)
     (is_rest : rest ≡ drop at slots) where
   whole : slots ≡ prefix ++ rest
@@ -222,7 +222,7 @@ over_parts p xs before slots first rest a b at numbers is_first is_rest over_a o
     sym (map-append slot_number first rest) ∙ (ap (map slot_number) (ap₂ ◌++◌ is_first is_rest ∙ take-append-drop at slots) ∙ numbers) in
     subst O same (over_both p xs (map slot_number first) (map slot_number rest) a b over_a over_b)
 
--- what is over behind the cut
+-- what is over after the cut
 pub over_at : (p : Shape (Prim.Unit {0})) (xs : List Line) (over : Bool) (slots rest : List Slot) (at : ℕ) → over ≡ true → rest ≡ drop at slots → AreOverOrGoOn p xs over (drop at slots) → AreOver p xs (map slot_number rest) rest
 over_at p xs true slots rest at e is h = let O : List Slot → Type 0 = λ l. AreOver p xs (map slot_number l) l in subst O (sym is) h
 over_at p xs false slots rest at e is h = absurd (false≢true e)

@@ -10,8 +10,8 @@ ghost use Rattle.script_text.specs.Text.{IsScript};
 ghost use Rattle.script_text.specs.Runs.{AreEventsOf, total};
 ghost use Rattle.script_run.specs.Slots.{AreRegions, MayPlay, AreOver, slot_number};
 
-use crate::cutting::cut_in_two;
-use crate::placing::{ends, placed};
+use crate::cut::cut_in_two;
+use crate::places::{ends, place};
 use crate::regions::order_of;
 use crate::run::{own_events, zeros};
 use crate::slots::Slot;
@@ -95,7 +95,7 @@ pub fn run_forked<R: Threads + Wait + Sync, G: BeforeStart>(
     let over = Vec::with_capacity(alloc, order.len())?;
     let (pkg, mut first, rights) = open_forked::<SumUses>(alloc, layout, &(), values, true)?;
     first.reserve(own_events(lines, 0) + 1)?;
-    let (mut slots, others) = placed(alloc, first, rights, &order[..order.len() - 1])?;
+    let (mut slots, others) = place(alloc, first, rights, &order[..order.len() - 1])?;
     let stage = Stage {
         rt,
         pkg: &pkg,

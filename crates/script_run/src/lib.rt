@@ -7,10 +7,10 @@
 //! and only runs show that threads run beside each other.
 #![tactic(auto)]
 
-mod cutting;
+mod cut;
 mod forked;
 mod parts;
-mod placing;
+mod places;
 mod play;
 mod regions;
 mod run;

@@ -10,7 +10,7 @@ ghost use Rattle.larch_actions.specs.Sets.{in_set};
 
 use crate::board::Board;
 use crate::found::{Found, Stop};
-use crate::moving::moved;
+use crate::moves::next_scenes;
 use crate::plan::Plan;
 use larch_actions::{Action, CondId, ThreadId, ThreadSet, Version};
 use script_plays::{Choice, Choices, Turn, choices};
@@ -41,7 +41,7 @@ fn attempt(
         (λ e. e ≡ event node.now.thread choice.now.action)) }
     ensures full { IfErr result (λ stop. stop ≡ Stop.Limit → Exceeds plan.now.layout plan.now.lines found.old.limit) }
 {
-    let next = match moved(alloc, plan, node.board, node.thread, choice)? {
+    let next = match next_scenes(alloc, plan, node.board, node.thread, choice)? {
         None => return Ok(false),
         Some(next) => next,
     };

@@ -9,7 +9,7 @@ mod board;
 mod expand;
 mod explorer;
 mod found;
-mod moving;
+mod moves;
 mod pack;
 mod plan;
 mod step;

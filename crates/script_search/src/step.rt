@@ -11,7 +11,7 @@ ghost use Rattle.script_search.specs.Tries.{MayTry};
 ghost use Rattle.script_search.specs.Ways.{Leads, IsStep, AreWays, last_choices};
 
 use crate::board::Board;
-use crate::moving::moved;
+use crate::moves::next_scenes;
 use crate::pack::pack;
 use crate::plan::Plan;
 use larch_actions::{Action, Event, ThreadId, ThreadSet, Version};
@@ -100,7 +100,7 @@ fn leads(
     ensures { IfOk result (λ b. IsTrue b
         ↔ Leads plan.now.layout plan.now.lines (moment_of from.now) (moment_of to.now) (event t choice.now.action)) }
 {
-    match moved(alloc, plan, from, t, choice)? {
+    match next_scenes(alloc, plan, from, t, choice)? {
         None => Ok(false),
         Some(board) => {
             let same = is_same(alloc, &board, to)?;

@@ -6,7 +6,7 @@ use Rattle.script_text.specs.Operations.{none_held, none_forked}
 use Rattle.larch_actions.specs.declared.event.Layout.{Layout}
 use Rattle.script_text.specs.declared.line.Line.{Line}
 use Rattle.script_text.specs.Text.{lines_text, script_text, IsScriptText, ReadsAs}
-use Rattle.script_text.proofs.Prefixes.{newlines_append, newlines_script, script_behind, script_end}
+use Rattle.script_text.proofs.Prefixes.{newlines_append, newlines_script, script_after, script_end}
 use Rattle.script_text.proofs.Verdicts.{ends_before, prefixes, last_newline}
 
 lacks_none : (bytes : List ℕ) → newlines bytes ≡ 0 → Lacks 10 bytes
@@ -56,7 +56,7 @@ nothing_more (z ∷ zs) e = absurd (cc)
 
 one_script : (input : List ℕ) (l k : Layout) (xs ys : List Line) → ReadsAs input l xs → ReadsAs input k ys → (l ≡ k) × (xs ≡ ys)
 one_script input l k xs ys a b =
-    let r = script_behind k l none_held none_forked xs ys [] b.script.lawful a.script.lawful a.script.follow b.script.follow (append-nil (script_text l xs) ∙ (sym a.text ∙ b.text)) in
+    let r = script_after k l none_held none_forked xs ys [] b.script.lawful a.script.lawful a.script.follow b.script.follow (append-nil (script_text l xs) ∙ (sym a.text ∙ b.text)) in
     (sym r.0, sym (r.1.1 ∙ (ap (λ zs. xs ++ zs) (nothing_more r.1.0 r.1.2) ∙ append-nil xs)))
 
 pub one_answer : OneAnswer

@@ -12,7 +12,7 @@ use Rattle.script_text.proofs.Layouts.{threads_within}
 use Rattle.script_text.specs.Parsing.{IsField}
 use Rattle.script_text.proofs.Pieces.{cut_same, lacks_decimal}
 
--- a number before a space is determined, and so is what stands behind it
+-- a number before a space is determined, and so is what stands after it
 pub number_same : (n m : ℕ) (y z : List ℕ) → n < 2 ^ 64 → m < 2 ^ 64 → decimal n ++ 32 ∷ y ≡ decimal m ++ 32 ∷ z → (n ≡ m) × (y ≡ z)
 number_same n m y z fn fm e =
     let c = cut_same 32 (decimal n) (decimal m) y z (lacks_decimal 32 n (omega arith) fn) (lacks_decimal 32 m (omega arith) fm) e in
@@ -32,15 +32,15 @@ abbrev pub mutexes_tail : Layout → List ℕ
 mutexes_tail l = codes "mutexes " ++ (decimal l.mutexes ++ 32 ∷ conditions_tail l)
 
 module _ (v : Version) (l : Layout) (ok : IsLayoutIn v l) (bytes : List ℕ) where
-  pub behind_threads : (most n : ℕ) (y : List ℕ) → most ≡ most_in v → IsField most bytes (codes "threads ") n y → bytes ≡ layout_text l → (n ≡ l.threads) × (y ≡ mutexes_tail l)
-  behind_threads most n y is f e =
+  pub after_threads : (most n : ℕ) (y : List ℕ) → most ≡ most_in v → IsField most bytes (codes "threads ") n y → bytes ≡ layout_text l → (n ≡ l.threads) × (y ≡ mutexes_tail l)
+  after_threads most n y is f e =
       field_is most (codes "threads ") bytes y (mutexes_tail l) n l.threads (omega (arith, is, few_in v)) f (omega (arith, is, threads_within v l ok)) e
 
-  pub behind_mutexes : (n : ℕ) (y : List ℕ) → IsField most_objects bytes (codes "mutexes ") n y → bytes ≡ mutexes_tail l → (n ≡ l.mutexes) × (y ≡ conditions_tail l)
-  behind_mutexes n y f e = field_is most_objects (codes "mutexes ") bytes y (conditions_tail l) n l.mutexes (omega arith) f ok.lawful.mutexes e
+  pub after_mutexes : (n : ℕ) (y : List ℕ) → IsField most_objects bytes (codes "mutexes ") n y → bytes ≡ mutexes_tail l → (n ≡ l.mutexes) × (y ≡ conditions_tail l)
+  after_mutexes n y f e = field_is most_objects (codes "mutexes ") bytes y (conditions_tail l) n l.mutexes (omega arith) f ok.lawful.mutexes e
 
-  pub behind_conditions : (n : ℕ) (y : List ℕ) → IsField most_objects bytes (codes "conditions ") n y → bytes ≡ conditions_tail l → (n ≡ l.conditions) × (y ≡ semaphores_tail l)
-  behind_conditions n y f e = field_is most_objects (codes "conditions ") bytes y (semaphores_tail l) n l.conditions (omega arith) f ok.lawful.conditions e
+  pub after_conditions : (n : ℕ) (y : List ℕ) → IsField most_objects bytes (codes "conditions ") n y → bytes ≡ conditions_tail l → (n ≡ l.conditions) × (y ≡ semaphores_tail l)
+  after_conditions n y f e = field_is most_objects (codes "conditions ") bytes y (semaphores_tail l) n l.conditions (omega arith) f ok.lawful.conditions e
 
 -- three fields and the last number are the text of the layout
 pub layout_of_fields : (l : Layout) (most : ℕ) (bytes b1 b2 b3 b4 : List ℕ) → IsField most bytes (codes "threads ") l.threads b1 → IsField most_objects b1 (codes "mutexes ") l.mutexes b2 → IsField most_objects b2 (codes "conditions ") l.conditions b3

@@ -12,7 +12,7 @@ kept_consumes None left' w k = tt
 kept_consumes (Some xs) None w k = absurd k
 kept_consumes (Some xs) (Some ys) w k = sym k
 
--- a newline behind bytes that lack one stands behind them all
+-- a newline after bytes that lack one stands after them all
 far : (n : ℕ) (prefix rest line after : List ℕ) → length prefix ≡ n → Lacks 10 prefix → prefix ++ rest ≡ line ++ 10 ∷ after → n ≤ length line
 far n [] rest line after len flat e = omega arith
 far n (x ∷ prefix) rest [] after len flat e = let h : x ≡ 10 = cc in absurd (flat.0 h)
@@ -52,8 +52,8 @@ line_consumed (Some xs) (Some ys) w w' line n k f e d =
     let after = f.3.0 in
     let split : w ≡ (line ++ 10 ∷ []) ++ after = f.3.1 ∙ ap (λ l. l ++ 10 ∷ after) e ∙ sym (append_assoc line (10 ∷ []) after) in
     let size : length (line ++ 10 ∷ []) ≡ n + 1 = omega (arith, length-append line (10 ∷ []), ap length e, length-take-le n w (omega (arith, f.1))) in
-    let behind : w' ≡ after = d ∙ ap (drop (n + 1)) split ∙ drop_at (line ++ 10 ∷ []) after (n + 1) size in
-    sym k ∙ ap (λ l. l ++ ys) split ∙ append_assoc (line ++ 10 ∷ []) after ys ∙ ap (λ l. (line ++ 10 ∷ []) ++ (l ++ ys)) (sym behind)
+    let following : w' ≡ after = d ∙ ap (drop (n + 1)) split ∙ drop_at (line ++ 10 ∷ []) after (n + 1) size in
+    sym k ∙ ap (λ l. l ++ ys) split ∙ append_assoc (line ++ 10 ∷ []) after ys ∙ ap (λ l. (line ++ 10 ∷ []) ++ (l ++ ys)) (sym following)
 
 pub some_left : (r left' : Option (List ℕ)) (w : List ℕ) → Keeps r (prepend_known w left') → 0 < length w → IfSome r (λ bytes. 0 < length bytes)
 some_left None left' w k some = tt

@@ -1,4 +1,4 @@
--- One more line behind others.
+-- One more line after others.
 use Rattle.std.proofs.Common.{◌≡◌, List, [], ◌∷◌, ◌++◌, refl}
 use Rattle.larch_actions.specs.declared.event.Layout.{Layout}
 use Rattle.script_text.specs.declared.line.Line.{Line}

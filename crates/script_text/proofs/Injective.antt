@@ -14,14 +14,14 @@ use Rattle.script_text.specs.Operations.{IsNamed}
 use Rattle.script_text.specs.Parsing.{IsLineOf}
 use Rattle.script_text.specs.Table.{word_of, kinds_of, numbers_of, made, AreWithin, operands_text}
 use Rattle.script_text.specs.Text.{operation_text, line_text}
-use Rattle.script_text.proofs.Fields.{behind_threads, behind_mutexes, behind_conditions, mutexes_tail, conditions_tail, semaphores_tail, number_same}
-use Rattle.script_text.proofs.Operands.{part_same, operands_behind, operands_same}
+use Rattle.script_text.proofs.Fields.{after_threads, after_mutexes, after_conditions, mutexes_tail, conditions_tail, semaphores_tail, number_same}
+use Rattle.script_text.proofs.Operands.{part_same, operands_after, operands_same}
 use Rattle.script_text.proofs.Rows.{fits, word_same, built}
 use Rattle.std.proofs.lemmas.List.{append_cancel_left}
 
 pub operation_same : (l : Layout) → IsLawful l → (x y : Operation) → IsNamed l x → IsNamed l y → operation_text x ≡ operation_text y → x ≡ y
 operation_same l ok x y nx ny e =
-    let c = part_same _ _ _ _ (fits (word_of x)).bare (fits (word_of y)).bare (operands_behind (kinds_of (word_of x)) (numbers_of x)) (operands_behind (kinds_of (word_of y)) (numbers_of y)) e in
+    let c = part_same _ _ _ _ (fits (word_of x)).bare (fits (word_of y)).bare (operands_after (kinds_of (word_of x)) (numbers_of x)) (operands_after (kinds_of (word_of y)) (numbers_of y)) e in
     let w = word_same (word_of x) (word_of y) c.0 in
     let N : Word → Type 0 = λ v. AreWithin l (kinds_of v) (numbers_of y) in
     let T : Word → Type 0 = λ v. operands_text (kinds_of (word_of x)) (numbers_of x) ≡ operands_text (kinds_of v) (numbers_of y) in
@@ -47,8 +47,8 @@ layout_of k l v a b c d =
 
 pub layout_same : (v : Version) (k l : Layout) → IsLayoutIn v k → IsLayoutIn v l → layout_text k ≡ layout_text l → k ≡ l
 layout_same v k l ok ok' e =
-    let a = behind_threads v l ok' (layout_text k) (most_in v) k.threads (mutexes_tail k) refl (record { within = threads_within v k ok; text = refl }) e in
-    let b = behind_mutexes v l ok' (mutexes_tail k) k.mutexes (conditions_tail k) (record { within = ok.lawful.mutexes; text = refl }) a.1 in
-    let c = behind_conditions v l ok' (conditions_tail k) k.conditions (semaphores_tail k) (record { within = ok.lawful.conditions; text = refl }) b.1 in
+    let a = after_threads v l ok' (layout_text k) (most_in v) k.threads (mutexes_tail k) refl (record { within = threads_within v k ok; text = refl }) e in
+    let b = after_mutexes v l ok' (mutexes_tail k) k.mutexes (conditions_tail k) (record { within = ok.lawful.mutexes; text = refl }) a.1 in
+    let c = after_conditions v l ok' (conditions_tail k) k.conditions (semaphores_tail k) (record { within = ok.lawful.conditions; text = refl }) b.1 in
     let d = decimal_injective k.semaphores l.semaphores (omega (arith, ok.lawful.semaphores)) (omega (arith, ok'.lawful.semaphores)) (append_cancel_left (codes "semaphores ") _ _ c.1) in
     layout_of k l (ok.version ∙ sym ok'.version) a.0 b.0 c.0 d

@@ -15,7 +15,7 @@ keeps_takes None left left' most n old new k t = tt
 keeps_takes (Some xs) None left' most n old new k t = absurd k
 keeps_takes (Some xs) (Some ys) None most n old new k t = absurd t.consumed
 keeps_takes (Some xs) (Some ys) (Some zs) most n old new k t =
-    ap (λ w. w ++ zs) t.behind ∙ append_assoc old t.piece zs ∙ ap (λ w. old ++ w) (sym t.consumed) ∙ k
+    ap (λ w. w ++ zs) t.following ∙ append_assoc old t.piece zs ∙ ap (λ w. old ++ w) (sym t.consumed) ∙ k
 
 pub keeps_same : (r left left' : Option (List ℕ)) (old new : List ℕ) → Keeps r (prepend_known old left) → new ≡ old → Keeps left left' → Keeps r (prepend_known new left')
 keeps_same None left left' old new k e s = tt
@@ -36,7 +36,7 @@ empty (x ∷ p) e = absurd (omega arith)
 -- nothing was taken
 pub takes_nothing : (left left' : Option (List ℕ)) (most : ℕ) (old new : List ℕ) → Takes most left left' old new 0 → new ≡ old
 takes_nothing left left' most old new t =
-    t.behind ∙ ap (λ p. old ++ p) (empty t.piece t.count) ∙ append-nil old
+    t.following ∙ ap (λ p. old ++ p) (empty t.piece t.count) ∙ append-nil old
 
 pub prepend_nothing : (w : List ℕ) (r : Option (List ℕ)) → w ≡ [] → prepend_known w r ≡ r
 prepend_nothing w None e = refl

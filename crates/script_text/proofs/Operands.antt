@@ -1,4 +1,4 @@
--- What stands behind a word, whichever kinds these are.
+-- What stands after a word, whichever kinds these are.
 use Rattle.std.proofs.Common.{◌≡◌, ℕ, ◌-◌, ◌*◌, ◌^◌, ◌<◌, ◌≤◌, List, [], ◌∷◌, ◌++◌, length, length-append, take, drop, get_or, refl, sym, subst, ◌∙◌, arith}
 use Rattle.std.proofs.lemmas.Fmt.{decimal_injective}
 use Rattle.std.proofs.lemmas.List.{append_cancel_left, take_all}
@@ -9,7 +9,7 @@ use Rattle.larch_actions.proofs.Names.{few_of, letter_high}
 use Rattle.script_text.specs.declared.table.Operand.{Operand}
 use Rattle.script_text.specs.declared.table.Operand.TheVariants.{Name, Amount, Count}
 use Rattle.script_text.specs.Faults.{Lacks}
-use Rattle.script_text.specs.Parsing.{IsBehind, AreParted, Are}
+use Rattle.script_text.specs.Parsing.{IsAfter, AreParted, Are}
 use Rattle.script_text.specs.Table.{prefix_text, IsWithin, AreWithin, IsSmall, AreSmall, operand_text, operands_text}
 use Rattle.script_text.proofs.Pieces.{lacks_append, lacks_decimal, decimal_short}
 
@@ -23,13 +23,13 @@ prefix_short (Name k) = omega arith
 prefix_short Amount = omega arith
 prefix_short Count = omega arith
 
-pub operands_behind : (ks : List Operand) (ns : List ℕ) → IsBehind (operands_text ks ns)
-operands_behind [] ns = tt
-operands_behind (k ∷ ks) [] = tt
-operands_behind (k ∷ ks) (n ∷ ns) = refl
+pub operands_after : (ks : List Operand) (ns : List ℕ) → IsAfter (operands_text ks ns)
+operands_after [] ns = tt
+operands_after (k ∷ ks) [] = tt
+operands_after (k ∷ ks) (n ∷ ns) = refl
 
 -- what stands before the first space, and from there on, is determined
-pub part_same : (xs ys a b : List ℕ) → Lacks 32 xs → Lacks 32 ys → IsBehind a → IsBehind b → xs ++ a ≡ ys ++ b → (xs ≡ ys) × (a ≡ b)
+pub part_same : (xs ys a b : List ℕ) → Lacks 32 xs → Lacks 32 ys → IsAfter a → IsAfter b → xs ++ a ≡ ys ++ b → (xs ≡ ys) × (a ≡ b)
 part_same [] [] a b p q f g e = (refl, e)
 part_same [] (y ∷ ys) [] b p q f g e = absurd (cc)
 part_same [] (y ∷ ys) (c ∷ a) b p q f g e = let h : c ≡ y = cc in absurd (q.0 (sym h ∙ f))
@@ -59,7 +59,7 @@ module _ (l : Layout) (ok : IsLawful l) where
   within_small Amount n h = h
   within_small Count n h = h
 
-  -- the first numbers are as small as what stands behind a word has to be
+  -- the first numbers are as small as what stands after a word has to be
   pub first_small : (ks : List Operand) (ns : List ℕ) → AreWithin l ks (take (length ks) ns) → AreSmall ks ns
   first_small [] ns h = tt
   first_small (k ∷ ks) [] h = tt
@@ -96,38 +96,38 @@ module _ (l : Layout) (ok : IsLawful l) where
   operands_same (k ∷ ks) (n ∷ ns) [] p q e = absurd q
   operands_same (k ∷ ks) (n ∷ ns) (m ∷ ms) p q e =
       let tail : operand_text k n ++ operands_text ks ns ≡ operand_text k m ++ operands_text ks ms = cc in
-      let c = part_same _ _ _ _ (operand_lacks 32 k n (omega arith) p.0) (operand_lacks 32 k m (omega arith) q.0) (operands_behind ks ns) (operands_behind ks ms) tail in
+      let c = part_same _ _ _ _ (operand_lacks 32 k n (omega arith) p.0) (operand_lacks 32 k m (omega arith) q.0) (operands_after ks ns) (operands_after ks ms) tail in
       let first = operand_same k n m p.0 q.0 c.0 in
       let others = operands_same ks ns ms p.1 q.1 c.1 in
       cc
 
-  -- where these numbers stand behind a space each, the first stands before the next space, and the others from there on
-  pub parts_of : (ks : List Operand) (d : Operand) (bytes prefix behind ns : List ℕ) → 1 ≤ length ks → AreParted (take (length bytes - 1) (drop 1 bytes)) prefix behind → Are l ks bytes ns
-      → (m : ℕ) × (ms : List ℕ) × IsWithin l (get_or ks 0 d) m × (prefix ≡ operand_text (get_or ks 0 d) m) × Are l (take (length ks - 1) (drop 1 ks)) behind ms
-  parts_of [] d bytes prefix behind ns some p a = absurd (omega arith)
-  parts_of (k ∷ ks) d bytes prefix behind [] some p a = absurd a.0
-  parts_of (k ∷ ks) d [] prefix behind (n ∷ ns) some p a = let e = a.1 in absurd (cc)
-  parts_of (k ∷ ks) d (c ∷ bytes) prefix behind (n ∷ ns) some p a =
+  -- where these numbers stand after a space each, the first stands before the next space, and the others from there on
+  pub parts_of : (ks : List Operand) (d : Operand) (bytes prefix following ns : List ℕ) → 1 ≤ length ks → AreParted (take (length bytes - 1) (drop 1 bytes)) prefix following → Are l ks bytes ns
+      → (m : ℕ) × (ms : List ℕ) × IsWithin l (get_or ks 0 d) m × (prefix ≡ operand_text (get_or ks 0 d) m) × Are l (take (length ks - 1) (drop 1 ks)) following ms
+  parts_of [] d bytes prefix following ns some p a = absurd (omega arith)
+  parts_of (k ∷ ks) d bytes prefix following [] some p a = absurd a.0
+  parts_of (k ∷ ks) d [] prefix following (n ∷ ns) some p a = let e = a.1 in absurd (cc)
+  parts_of (k ∷ ks) d (c ∷ bytes) prefix following (n ∷ ns) some p a =
       let e = a.1 in
       let tail : bytes ≡ operand_text k n ++ operands_text ks ns = cc in
       let rest : take (length (c ∷ bytes) - 1) bytes ≡ bytes = take_all _ bytes (omega arith) in
       let kinds : take (length (k ∷ ks) - 1) ks ≡ ks = take_all _ ks (omega arith) in
-      let same = part_same prefix (operand_text k n) behind (operands_text ks ns) p.bare (operand_lacks 32 k n (omega arith) a.0.0) p.from_space (operands_behind ks ns) (sym p.text ∙ rest ∙ tail) in
-      let P : List Operand → Type 0 = λ q. Are l q behind ns in
+      let same = part_same prefix (operand_text k n) following (operands_text ks ns) p.bare (operand_lacks 32 k n (omega arith) a.0.0) p.from_space (operands_after ks ns) (sym p.text ∙ rest ∙ tail) in
+      let P : List Operand → Type 0 = λ q. Are l q following ns in
       (n, ns, a.0.0, same.0, subst P (sym kinds) (a.0.1, same.1))
 
   -- a number before these others: what stands there is all of them
-  pub one_more : (ks : List Operand) (d : Operand) (bytes prefix behind : List ℕ) (n a b e : ℕ) → 1 ≤ length ks → length ks ≤ 3 → 1 ≤ length bytes → get_or bytes 0 0 ≡ 32 → AreParted (take (length bytes - 1) (drop 1 bytes)) prefix behind
-      → IsWithin l (get_or ks 0 d) n → prefix ≡ operand_text (get_or ks 0 d) n → Are l (take (length ks - 1) (drop 1 ks)) behind (take (length (take (length ks - 1) (drop 1 ks))) (a ∷ b ∷ e ∷ [])) → Are l ks bytes (take (length ks) (n ∷ a ∷ b ∷ []))
-  one_more [] d bytes prefix behind n a b e some few any is p within same others = absurd (omega arith)
-  one_more (k ∷ ks) d [] prefix behind n a b e some few any is p within same others = absurd (omega arith)
-  one_more (k ∷ ks) d (c ∷ bytes) prefix behind n a b e some few any is p within same others =
+  pub one_more : (ks : List Operand) (d : Operand) (bytes prefix following : List ℕ) (n a b e : ℕ) → 1 ≤ length ks → length ks ≤ 3 → 1 ≤ length bytes → get_or bytes 0 0 ≡ 32 → AreParted (take (length bytes - 1) (drop 1 bytes)) prefix following
+      → IsWithin l (get_or ks 0 d) n → prefix ≡ operand_text (get_or ks 0 d) n → Are l (take (length ks - 1) (drop 1 ks)) following (take (length (take (length ks - 1) (drop 1 ks))) (a ∷ b ∷ e ∷ [])) → Are l ks bytes (take (length ks) (n ∷ a ∷ b ∷ []))
+  one_more [] d bytes prefix following n a b e some few any is p within same others = absurd (omega arith)
+  one_more (k ∷ ks) d [] prefix following n a b e some few any is p within same others = absurd (omega arith)
+  one_more (k ∷ ks) d (c ∷ bytes) prefix following n a b e some few any is p within same others =
       let rest : take (length (c ∷ bytes) - 1) bytes ≡ bytes = take_all _ bytes (omega arith) in
       let kinds : take (length (k ∷ ks) - 1) ks ≡ ks = take_all _ ks (omega arith) in
-      let P : List Operand → Type 0 = λ q. Are l q behind (take (length q) (a ∷ b ∷ e ∷ [])) in
+      let P : List Operand → Type 0 = λ q. Are l q following (take (length q) (a ∷ b ∷ e ∷ [])) in
       let o = subst P kinds others in
       let short = take_two ks a b e (omega arith) in
-      let Q : List ℕ → Type 0 = λ ns. Are l ks behind ns in
+      let Q : List ℕ → Type 0 = λ ns. Are l ks following ns in
       let r = subst Q short o in
       let text : bytes ≡ operand_text k n ++ operands_text ks (take (length ks) (a ∷ b ∷ [])) = sym rest ∙ p.text ∙ cc in
       ((within, r.0), cc)

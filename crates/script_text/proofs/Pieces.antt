@@ -23,7 +23,7 @@ pub lacks_not : (c : ℕ) (xs ys : List ℕ) → Lacks c (xs ++ c ∷ ys) → �
 lacks_not c [] ys p = p.0 refl
 lacks_not c (x ∷ xs) ys p = lacks_not c xs ys p.1
 
--- the bytes before the first c, and those behind it, are determined
+-- the bytes before the first c, and those after it, are determined
 pub cut_same : (c : ℕ) (xs ys a b : List ℕ) → Lacks c xs → Lacks c ys → xs ++ c ∷ a ≡ ys ++ c ∷ b → (xs ≡ ys) × (a ≡ b)
 cut_same c [] [] a b p q e = (refl, cc)
 cut_same c [] (y ∷ ys) a b p q e = let h : y ≡ c = cc in absurd (q.0 h)
@@ -34,7 +34,7 @@ cut_same c (x ∷ xs) (y ∷ ys) a b p q e =
     let ih = cut_same c xs ys a b p.1 q.1 tail in
     (let same = ih.0 in cc, ih.1)
 
--- the bytes are those before the place, the byte there, and those behind it
+-- the bytes are those before the place, the byte there, and those after it
 pub split_at : (c : ℕ) (xs : List ℕ) (n : ℕ) → n < length xs → (get_or xs n 0 == c) ≡ true → xs ≡ take n xs ++ c ∷ drop (suc n) xs
 split_at c xs n lt e =
     sym (take-append-drop n xs) ∙ ap (λ l. take n xs ++ l) (drop-cons xs n 0 lt ∙ ap (λ x. x ∷ drop (suc n) xs) (eqb-true (get_or xs n 0) c e))

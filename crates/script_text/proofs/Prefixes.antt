@@ -1,4 +1,4 @@
--- What stands behind the first lines of a script text.
+-- What stands after the first lines of a script text.
 use Rattle.std.proofs.Common.{◌≡◌, ℕ, ◌+◌, ◌^◌, ◌<◌, List, [], ◌∷◌, ◌++◌, length, get_or, refl, ap, sym, subst, ◌∙◌, append_assoc, true, arith}
 use Rattle.std.proofs.lemmas.Bool.{ne_eqb}
 use Rattle.std.specs.Prelude.{codes, decimal}
@@ -46,15 +46,15 @@ lines_append [] ys = refl
 lines_append (x ∷ xs) ys = ap (λ b. line_text x ++ 10 ∷ b) (lines_append xs ys) ∙ sym (append_assoc (line_text x) (10 ∷ lines_text xs) (lines_text ys))
 
 -- where lines stand at the front of the text of others, these begin with them
-pub lines_behind : (l : Layout) (h : Holding) (f : Forked) (xs ys : List Line) (rest : List ℕ) → IsLawful l → MayFollow l h f xs → MayFollow l h f ys → lines_text xs ++ rest ≡ lines_text ys → (zs : List Line) × (ys ≡ xs ++ zs) × (rest ≡ lines_text zs)
-lines_behind l h f [] ys rest ok p q e = (ys, refl, e)
-lines_behind l h f (x ∷ xs) [] rest ok p q e = absurd (cc)
-lines_behind l h f (x ∷ xs) (y ∷ ys) rest ok p q e =
+pub lines_after : (l : Layout) (h : Holding) (f : Forked) (xs ys : List Line) (rest : List ℕ) → IsLawful l → MayFollow l h f xs → MayFollow l h f ys → lines_text xs ++ rest ≡ lines_text ys → (zs : List Line) × (ys ≡ xs ++ zs) × (rest ≡ lines_text zs)
+lines_after l h f [] ys rest ok p q e = (ys, refl, e)
+lines_after l h f (x ∷ xs) [] rest ok p q e = absurd (cc)
+lines_after l h f (x ∷ xs) (y ∷ ys) rest ok p q e =
     let first : line_text x ++ 10 ∷ (lines_text xs ++ rest) ≡ line_text y ++ 10 ∷ lines_text ys = sym (append_assoc (line_text x) (10 ∷ lines_text xs) rest) ∙ e in
     let c = cut_same 10 (line_text x) (line_text y) (lines_text xs ++ rest) (lines_text ys) (line_flat l h f x ok p.0) (line_flat l h f y ok q.0) first in
     let same = line_same l ok x y (p.0.thread, p.0.named) (q.0.thread, q.0.named) c.0 in
     let P : Line → Type 0 = λ z. MayFollow l (holding_after h z.thread.0 z.operation) (forked_with f (fate_of z.operation)) ys in
-    let ih = lines_behind l (holding_after h x.thread.0 x.operation) (forked_with f (fate_of x.operation)) xs ys rest ok p.1 (subst P (sym same) q.1) c.1 in
+    let ih = lines_after l (holding_after h x.thread.0 x.operation) (forked_with f (fate_of x.operation)) xs ys rest ok p.1 (subst P (sym same) q.1) c.1 in
     (ih.0, ap (λ zs. y ∷ zs) ih.1 ∙ ap (λ z. z ∷ (xs ++ ih.0)) (sym same), ih.2)
 
 -- a first line of version two is no layout line
@@ -78,12 +78,12 @@ pub script_more : (l : Layout) (xs : List Line) (rest : List ℕ) → script_tex
 script_more l xs rest =
     append_assoc (first_line l.version) (layout_text l ++ 10 ∷ lines_text xs) rest ∙ ap (λ b. first_line l.version ++ b) (append_assoc (layout_text l) (10 ∷ lines_text xs) rest)
 
-pub script_behind : (k l : Layout) (h : Holding) (f : Forked) (xs ys : List Line) (rest : List ℕ) → IsLawful k → IsLawful l → MayFollow l h f xs → MayFollow k h f ys → script_text l xs ++ rest ≡ script_text k ys
+pub script_after : (k l : Layout) (h : Holding) (f : Forked) (xs ys : List Line) (rest : List ℕ) → IsLawful k → IsLawful l → MayFollow l h f xs → MayFollow k h f ys → script_text l xs ++ rest ≡ script_text k ys
     → (k ≡ l) × ((zs : List Line) × (ys ≡ xs ++ zs) × (rest ≡ lines_text zs))
-script_behind k l h f xs ys rest okk ok p q e =
+script_after k l h f xs ys rest okk ok p q e =
     let c = head_same k l (lines_text ys) (lines_text xs ++ rest) okk ok (sym e ∙ script_more l xs rest) in
     let P : Layout → Type 0 = λ z. MayFollow z h f ys in
-    (c.0, lines_behind l h f xs ys rest ok p (subst P c.0 q) (sym c.1))
+    (c.0, lines_after l h f xs ys rest ok p (subst P c.0 q) (sym c.1))
 
 pub newlines_append : (xs ys : List ℕ) → newlines (xs ++ ys) ≡ newlines xs + newlines ys
 newlines_append [] ys = omega arith

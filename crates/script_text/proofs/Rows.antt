@@ -17,10 +17,10 @@ use Rattle.script_text.specs.Operations.{IsNamed}
 use Rattle.script_text.specs.Parsing.{AreParted, Are, first_of}
 use Rattle.script_text.specs.Table.{word_text, kinds_of, made, word_of, numbers_of, use_of, fate_of, operands_text, AreWithin, listed}
 use Rattle.script_text.specs.Text.{operation_text}
-use Rattle.script_text.proofs.Operands.{part_same, operands_behind}
+use Rattle.script_text.proofs.Operands.{part_same, operands_after}
 use Rattle.script_text.proofs.Pieces.{is_lacking, lacks_from}
 
--- a word has no space and no newline and is short, and at most three things stand behind it
+-- a word has no space and no newline and is short, and at most three things stand after it
 pub record IsFit (w : Word) : Type 0 where
   pub bare : Lacks 32 (word_text w)
   pub flat : Lacks 10 (word_text w)
@@ -108,7 +108,7 @@ built (AlertUntil m c n) = refl
 built (Fork u) = refl
 built (Join u) = refl
 
--- the operation that is made of a word has this word, and the numbers that stand behind it
+-- the operation that is made of a word has this word, and the numbers that stand after it
 made_word : (w : Word) (ns : List ℕ) → word_of (made w ns) ≡ w
 made_word word.Acquire ns = refl
 made_word word.Release ns = refl
@@ -145,13 +145,13 @@ made_numbers word.AlertUntil x = refl
 made_numbers word.Fork x = refl
 made_numbers word.Join x = refl
 
--- the operation that is made of a word and the numbers behind it
-pub made_of : (l : Layout) (w : Word) (x : Numbers) (bytes prefix behind : List ℕ) → AreParted bytes prefix behind → prefix ≡ word_text w → Are l (kinds_of w) behind (first_of (kinds_of w) x) → IsNamed l (made w (listed x)) × (bytes ≡ operation_text (made w (listed x)))
-made_of l w x bytes prefix behind p e a =
+-- the operation that is made of a word and the numbers after it
+pub made_of : (l : Layout) (w : Word) (x : Numbers) (bytes prefix following : List ℕ) → AreParted bytes prefix following → prefix ≡ word_text w → Are l (kinds_of w) following (first_of (kinds_of w) x) → IsNamed l (made w (listed x)) × (bytes ≡ operation_text (made w (listed x)))
+made_of l w x bytes prefix following p e a =
     let o = made w (listed x) in
     let Named : Word → List ℕ → Type 0 = λ v ns. AreWithin l (kinds_of v) ns in
     let Text : Word → List ℕ → Type 0 = λ v ns. bytes ≡ word_text v ++ operands_text (kinds_of v) ns in
-    let text : Text w (first_of (kinds_of w) x) = p.text ∙ ap (λ f. f ++ behind) e ∙ ap (λ b. word_text w ++ b) a.1 in
+    let text : Text w (first_of (kinds_of w) x) = p.text ∙ ap (λ f. f ++ following) e ∙ ap (λ b. word_text w ++ b) a.1 in
     let ws = sym (made_word w (listed x)) in
     let ns = sym (made_numbers w x) in (
       subst (λ v. Named v (numbers_of o)) ws (subst (Named w) ns a.0),
@@ -194,7 +194,7 @@ named_fate l (Fork u) n = n.0
 named_fate l (Join u) n = n.0
 named_fate l _ n = tt
 
--- the word of an operation's text, and what stands behind it
-pub word_parts : (o : Operation) (bytes prefix behind : List ℕ) → AreParted bytes prefix behind → bytes ≡ operation_text o → (prefix ≡ word_text (word_of o)) × (behind ≡ operands_text (kinds_of (word_of o)) (numbers_of o))
-word_parts o bytes prefix behind p e =
-    part_same prefix (word_text (word_of o)) behind (operands_text (kinds_of (word_of o)) (numbers_of o)) p.bare (fits (word_of o)).bare p.from_space (operands_behind (kinds_of (word_of o)) (numbers_of o)) (sym p.text ∙ e)
+-- the word of an operation's text, and what stands after it
+pub word_parts : (o : Operation) (bytes prefix following : List ℕ) → AreParted bytes prefix following → bytes ≡ operation_text o → (prefix ≡ word_text (word_of o)) × (following ≡ operands_text (kinds_of (word_of o)) (numbers_of o))
+word_parts o bytes prefix following p e =
+    part_same prefix (word_text (word_of o)) following (operands_text (kinds_of (word_of o)) (numbers_of o)) p.bare (fits (word_of o)).bare p.from_space (operands_after (kinds_of (word_of o)) (numbers_of o)) (sym p.text ∙ e)

@@ -1,4 +1,4 @@
--- What is found behind the first lines is the answer for the whole input.
+-- What is found after the first lines is the answer for the whole input.
 use Rattle.std.proofs.Common.{◌≡◌, ℕ, ◌+◌, ◌<◌, ◌≤◌, ◌⊎◌, inl, inr, List, [], ◌∷◌, ◌++◌, length, length-append, refl, ap, sym, subst, ◌∙◌, append_assoc, append-nil, Option, None, Some, IfSome, arith}
 use Rattle.std.proofs.lemmas.Bool.Decides.{eqb_tells}
 use Rattle.std.specs.Io.KnownBytes.{Consumes}
@@ -19,7 +19,7 @@ use Rattle.script_text.specs.Operations.{none_held, none_forked, held_after, for
 use Rattle.script_text.specs.Text.{line_text, lines_text, second_version, first_line, script_text, IsScriptText, IsScript, ReadsAs}
 use Rattle.script_text.proofs.Firsts.{consumes_trans}
 use Rattle.script_text.proofs.Follow.{follow_split, held_append}
-use Rattle.script_text.proofs.Prefixes.{script_behind, layout_flat, line_flat, no_layout_line, newlines_append, newlines_flat, newlines_script, script_end}
+use Rattle.script_text.proofs.Prefixes.{script_after, layout_flat, line_flat, no_layout_line, newlines_append, newlines_flat, newlines_script, script_end}
 use Rattle.script_text.proofs.Pieces.{cut_same, lacks_not, lacks_from}
 use Rattle.script_text.proofs.Releases.{script_begins, nothing_begins, second_begins}
 
@@ -87,7 +87,7 @@ last_newline (x ∷ xs) ys [] e some =
     absurd (omega (arith, ap length tail, length-append xs ys))
 last_newline (x ∷ xs) ys (b ∷ body) e some = let tail : xs ++ ys ≡ body ++ 10 ∷ [] = cc in last_newline xs ys body tail some
 
--- 100,000 lines and nothing behind them aren't too long
+-- 100,000 lines and nothing after them aren't too long
 not_longer : (prefix : List ℕ) → newlines prefix ≡ 100000 → ((body : List ℕ) × (prefix ≡ body ++ 10 ∷ [])) → IsTooLong prefix → ⊥
 not_longer prefix full ends t =
     let n = last_newline t.before t.rest ends.0 (sym t.split ∙ ends.1) t.more in
@@ -95,9 +95,9 @@ not_longer prefix full ends t =
 
 module _ (l : Layout) (xs : List Line) (ok : IsLawful l) (p : MayFollow l none_held none_forked xs) where
   -- what goes on from the lines is lines
-  behind : (rest : List ℕ) → IsScriptText (script_text l xs ++ rest) → (zs : List Line) × MayFollow l (held_after none_held xs) (forked_after none_forked xs) zs × AllFree (held_after (held_after none_held xs) zs) × (rest ≡ lines_text zs)
-  behind rest (k, ys, r) =
-      let b = script_behind k l none_held none_forked xs ys rest r.script.lawful ok p r.script.follow r.text in
+  following : (rest : List ℕ) → IsScriptText (script_text l xs ++ rest) → (zs : List Line) × MayFollow l (held_after none_held xs) (forked_after none_forked xs) zs × AllFree (held_after (held_after none_held xs) zs) × (rest ≡ lines_text zs)
+  following rest (k, ys, r) =
+      let b = script_after k l none_held none_forked xs ys rest r.script.lawful ok p r.script.follow r.text in
       let P : Layout → Type 0 = λ z. MayFollow z none_held none_forked ys in
       let Q : List Line → Type 0 = λ zs. MayFollow l none_held none_forked zs in
       let R : List Line → Type 0 = λ zs. AllFree (held_after none_held zs) in
@@ -112,10 +112,10 @@ module _ (l : Layout) (xs : List Line) (ok : IsLawful l) (p : MayFollow l none_h
   next_bad : (rest : List ℕ) → FirstIsNone (NoneIs l xs) rest → NextIsBad (script_text l xs) rest
   next_bad rest none line after flat e b =
       let split : (script_text l xs ++ (line ++ 10 ∷ [])) ++ b.0 ≡ script_text l xs ++ (line ++ 10 ∷ b.0) = append_assoc (script_text l xs) (line ++ 10 ∷ []) b.0 ∙ ap (λ r. script_text l xs ++ r) (append_assoc line (10 ∷ []) b.0) in
-      let z = behind (line ++ 10 ∷ b.0) (subst IsScriptText split b.1) in
+      let z = following (line ++ 10 ∷ b.0) (subst IsScriptText split b.1) in
       first_is z.0 line b.0 flat z.1 z.3 (none line after flat e)
 
-  -- bytes with no newline behind the lines are nothing, where the whole is a script text
+  -- bytes with no newline after the lines are nothing, where the whole is a script text
   open_text : (rest : List ℕ) → Lacks 10 rest → (zs : List Line) → rest ≡ lines_text zs → AllFree (held_after (held_after none_held xs) zs) → (rest ≡ []) × AllFree (held_after none_held xs)
   open_text rest flat [] e free = (e, free)
   open_text rest flat (z ∷ zs) e free = absurd (lacks_not 10 (line_text z) (lines_text zs) (subst (Lacks 10) e flat))
@@ -131,7 +131,7 @@ module _ (l : Layout) (xs : List Line) (ok : IsLawful l) (p : MayFollow l none_h
           prefix = good_prefix l xs ok p;
           counted = omega arith;
           broken = next_bad rest none;
-          no_text = λ flat t. let z = behind rest t in let o = open_text rest flat z.0 z.3 z.2 in held o.0 o.1;
+          no_text = λ flat t. let z = following rest t in let o = open_text rest flat z.0 z.3 z.2 in held o.0 o.1;
         },
         elim (eqb_tells (head_lines l.version + length xs) 100000) [
           | inl q ↦ λ t. not_longer (script_text l xs) (omega (arith, q.1)) (script_end l xs) (subst IsTooLong (ap (λ r. script_text l xs ++ r) (full q.1) ∙ append-nil (script_text l xs)) t)
@@ -185,7 +185,7 @@ reason_since r left' first before now (BadLine k) le h = h
 reason_since r left' first before now TooLong le h = h
 reason_since r left' first before now Read le h = (rose_since first before now le h.0, h.1)
 
--- the line behind good lines is bad, and there aren't too many
+-- the line after good lines is bad, and there aren't too many
 at_head : (prefix rest : List ℕ) (k : ℕ) → IsGoodPrefix prefix → k ≡ newlines prefix + 1 → newlines prefix < 100000 → NextIsBad prefix rest → (Lacks 10 rest → IsScriptText (prefix ++ rest) → ⊥) → IsBadLine (prefix ++ rest) k × (IsTooLong (prefix ++ rest) → ⊥)
 at_head prefix rest k good counted few bad none =
     (record { before = prefix; rest = rest; split = refl; prefix = good; counted = counted; broken = bad; no_text = none }, not_long prefix rest few bad)
@@ -206,7 +206,7 @@ text_ends input flat (l, xs, r) = let n = newlines_script l none_held none_forke
 first_line_bad : (input : List ℕ) → FirstIsNone NoFirstIs input → IsBadLine input 1 × (IsTooLong input → ⊥)
 first_line_bad input none = at_head [] input 1 no_prefix refl (omega arith) (first_bad input none) (text_ends input)
 
--- behind the first line of version two stands a layout line of that version
+-- after the first line of version two stands a layout line of that version
 no_second : (l : Layout) (v : Version) (line a b : List ℕ) → l.version ≡ v → IsLawful l → Lacks 10 line → NoLayoutIs Two line → first_line Two ++ (line ++ 10 ∷ a) ≡ first_line v ++ (layout_text l ++ 10 ∷ b) → ⊥
 no_second l One line a b is ok flat none e = no_layout_line l (10 ∷ (line ++ 10 ∷ a)) (10 ∷ b) e
 no_second l Two line a b is ok flat none e = none l (record { lawful = ok; version = is }) (cut_same 10 line (layout_text l) a b flat (layout_flat l ok) (append_cancel_left (first_line Two) _ _ e)).0

@@ -68,7 +68,7 @@ HasReason left left' before now TooLong = IfSome left IsTooLong
 HasReason left left' before now Read = Rose before now × ((given : List ℕ) × Consumes left left' given × IsUndecided given)
 
 -- A failed read is reported: the count of faults never falls, and rises only where the call reports a failed read.
-pub record IsTold {T : Type 0} (before now : ℕ) (result : Result T ScriptFault) : Type 0 where
+pub record IsReported {T : Type 0} (before now : ℕ) (result : Result T ScriptFault) : Type 0 where
   pub later : before ≤ now
   pub unfailed : OnOk result (now ≡ before)
   pub otherwise : IfErr result (λ fault. fault ≢ Read → now ≡ before)

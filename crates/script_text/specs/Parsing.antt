@@ -14,15 +14,15 @@ Parses {X} lawful text bytes result =
     MatchOption result ((x : X) → lawful x → bytes ≡ text x → ⊥) (λ x. lawful x × (bytes ≡ text x))
 
 -- the bytes begin with a space, or are none
-abbrev pub IsBehind : List ℕ → Type 0
-IsBehind [] = Unit {0}
-IsBehind (c ∷ bytes) = c ≡ 32
+abbrev pub IsAfter : List ℕ → Type 0
+IsAfter [] = Unit {0}
+IsAfter (c ∷ bytes) = c ≡ 32
 
 -- the bytes before the first space, and those from there on
-pub record AreParted (bytes prefix behind : List ℕ) : Type 0 where
+pub record AreParted (bytes prefix following : List ℕ) : Type 0 where
   pub bare : Lacks 32 prefix
-  pub from_space : IsBehind behind
-  pub text : bytes ≡ prefix ++ behind
+  pub from_space : IsAfter following
+  pub text : bytes ≡ prefix ++ following
 
 -- these numbers stand after a word, and no others
 abbrev pub Are : Layout → List Operand → List ℕ → List ℕ → Type 0

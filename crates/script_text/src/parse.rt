@@ -67,7 +67,7 @@ fn name(bytes: &[u8], letter: u8, count: u32) -> Option<u32>
 }
 
 // The bytes before the first space, and those from there on.
-fn parted(bytes: &[u8]) -> (&[u8], &[u8])
+fn split(bytes: &[u8]) -> (&[u8], &[u8])
     ensures { AreParted bytes.now result.0.now result.1.now }
 {
     let Some(at) = memchr(b' ', bytes) else {
@@ -106,10 +106,10 @@ fn operands(bytes: &[u8], kinds: &[Operand], layout: &Layout) -> Option<Numbers>
         }
         return None;
     };
-    let [b' ', behind @ ..] = bytes else {
+    let [b' ', following @ ..] = bytes else {
         return None;
     };
-    let (piece, more) = parted(behind);
+    let (piece, more) = split(following);
     let Some(first) = operand(piece, *kind, layout) else {
         return None;
     };
@@ -128,11 +128,11 @@ fn operation(bytes: &[u8], layout: &Layout) -> Option<Operation>
     requires { IsLawful layout.now }
     ensures { Parses (IsNamed layout.now) operation_text bytes.now result }
 {
-    let (word, behind) = parted(bytes);
+    let (word, following) = split(bytes);
     let Some(word) = known_word(word) else {
         return None;
     };
-    let Some(numbers) = operands(behind, kinds(word), layout) else {
+    let Some(numbers) = operands(following, kinds(word), layout) else {
         return None;
     };
     Some(make(word, numbers))
@@ -143,14 +143,14 @@ pub fn line(bytes: &[u8], layout: &Layout) -> Option<Line>
     requires { IsLawful layout.now }
     ensures { Parses (IsLineOf layout.now) line_text bytes.now result }
 {
-    let Some((thread, behind)) = cut(bytes, b' ') else {
+    let Some((thread, following)) = cut(bytes, b' ') else {
         return None;
     };
     let Some(thread) = name(thread, b't', layout.threads) else {
         return None;
     };
     let thread = ThreadId(thread);
-    let Some(operation) = operation(behind, layout) else {
+    let Some(operation) = operation(following, layout) else {
         return None;
     };
     Some(Line { thread, operation })
@@ -161,32 +161,32 @@ fn field<'b>(bytes: &'b [u8], word: &[u8], most: u32) -> Option<(u32, &'b [u8])>
     ensures { MatchOption result ((n : ℕ) (y : List ℕ) → n ≤ most → bytes.now ≡ word.now ++ (decimal n ++ 32 ∷ y)
         → ⊥) (λ x. IsField most bytes.now word.now x.0 x.1.now) }
 {
-    let Some(behind) = bytes.strip_prefix(word) else {
+    let Some(following) = bytes.strip_prefix(word) else {
         return None;
     };
-    let Some((digits, behind)) = cut(behind, b' ') else {
+    let Some((digits, following)) = cut(following, b' ') else {
         return None;
     };
     let Some(number) = number(digits, u64::from(most)) else {
         return None;
     };
-    Some((number as u32, behind))
+    Some((number as u32, following))
 }
 
 /// The layout of the version that the bytes are, without the newline of its line.
 pub fn layout(bytes: &[u8], version: Version) -> Option<Layout>
     ensures { Parses (IsLayoutIn version) layout_text bytes.now result }
 {
-    let Some((threads, behind)) = field(bytes, b"threads ", version.most_threads()) else {
+    let Some((threads, following)) = field(bytes, b"threads ", version.most_threads()) else {
         return None;
     };
-    let Some((mutexes, behind)) = field(behind, b"mutexes ", MOST_OBJECTS) else {
+    let Some((mutexes, following)) = field(following, b"mutexes ", MOST_OBJECTS) else {
         return None;
     };
-    let Some((conditions, behind)) = field(behind, b"conditions ", MOST_OBJECTS) else {
+    let Some((conditions, following)) = field(following, b"conditions ", MOST_OBJECTS) else {
         return None;
     };
-    let Some(digits) = behind.strip_prefix(b"semaphores ") else {
+    let Some(digits) = following.strip_prefix(b"semaphores ") else {
         return None;
     };
     let Some(semaphores) = number(digits, u64::from(MOST_OBJECTS)) else {

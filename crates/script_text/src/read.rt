@@ -7,7 +7,7 @@ ghost use Rattle.script_text.specs.Layouts.{IsLayoutIn, head_lines};
 ghost use Rattle.script_text.specs.declared.line.Line.{Line};
 ghost use Rattle.script_text.specs.Operations.{none_held, held_after, AllFree};
 ghost use Rattle.script_text.specs.Text.{line_text, first_line, IsScript, ReadsAs};
-ghost use Rattle.script_text.specs.Faults.{HasReason, IsTold};
+ghost use Rattle.script_text.specs.Faults.{HasReason, IsReported};
 ghost use Rattle.script_text.specs.Drafts.{IsDraft, Takes, NoFirstIs, IsStart, HeadReason, FirstFault, SecondFault, TakeFault, EndFault, LineFault, LaterFault, IsDone, IsFinished};
 
 use crate::draft::Draft;
@@ -50,7 +50,7 @@ fn first<I: Source>(window: &mut Window, input: &mut I) -> Result<Start, ScriptF
         (prepend_known window.new (I.left input.new)) (line ++ 10 ∷ [])) }
     ensures fault { IfErr result (FirstFault (prepend_known window.old (I.left input.old)) (I.left input.new)
         (I.faults input.old) (I.faults input.new)) }
-    ensures told { IsTold (I.faults input.old) (I.faults input.new) result }
+    ensures reported { IsReported (I.faults input.old) (I.faults input.new) result }
 {
     match next(window, input) {
         Ok(Found::Whole { length }) => {
@@ -73,7 +73,7 @@ fn second<I: Source>(window: &mut Window, input: &mut I) -> Result<Layout, Scrip
         (prepend_known window.new (I.left input.new)) (layout_text l ++ 10 ∷ [])) }
     ensures fault { IfErr result (SecondFault (prepend_known window.old (I.left input.old)) (I.left input.new)
         (I.faults input.old) (I.faults input.new)) }
-    ensures told { IsTold (I.faults input.old) (I.faults input.new) result }
+    ensures reported { IsReported (I.faults input.old) (I.faults input.new) result }
 {
     match next(window, input) {
         Ok(Found::Whole { length }) => {
@@ -96,7 +96,7 @@ fn head<I: Source>(window: &mut Window, input: &mut I) -> Result<Layout, ScriptF
         (prepend_known window.new (I.left input.new)) (first_line l.version ++ (layout_text l ++ 10 ∷ []))) }
     ensures fault { IfErr result (HeadReason (prepend_known window.old (I.left input.old)) (I.left input.new)
         (I.faults input.old) (I.faults input.new)) }
-    ensures told { IsTold (I.faults input.old) (I.faults input.new) result }
+    ensures reported { IsReported (I.faults input.old) (I.faults input.new) result }
 {
     match first(window, input) {
         Ok(Start::Layout(layout)) => Ok(layout),
@@ -157,7 +157,7 @@ fn one<I: Source>(
     ensures layout { draft.new.layout ≡ draft.old.layout }
     ensures fault { IfErr result (LineFault draft.old.layout draft.old.lines.items (prepend_known window.old (I.left input.old))
         (I.left input.new) (I.faults input.old) (I.faults input.new)) }
-    ensures told { IsTold (I.faults input.old) (I.faults input.new) result }
+    ensures reported { IsReported (I.faults input.old) (I.faults input.new) result }
 {
     let line = draft.lines_read() as u64 + 1;
     match next(window, input) {
@@ -182,7 +182,7 @@ fn full<I: Source>(window: &mut Window, input: &mut I, draft: &Draft) -> Result<
     ensures end { OnOk result (IsDone draft.now.lines.items (prepend_known window.old (I.left input.old)) (I.left input.new)) }
     ensures fault { IfErr result (LineFault draft.now.layout draft.now.lines.items (prepend_known window.old (I.left input.old))
         (I.left input.new) (I.faults input.old) (I.faults input.new)) }
-    ensures told { IsTold (I.faults input.old) (I.faults input.new) result }
+    ensures reported { IsReported (I.faults input.old) (I.faults input.new) result }
 {
     if window.len() > 0 {
         return Err(ScriptFault::TooLong);
@@ -206,7 +206,7 @@ fn lines<I: Source>(
     ensures done { OnOk result (IsFinished draft.new (prepend_known window.old (I.left input.old)) (I.left input.new)) }
     ensures fault { IfErr result (LaterFault draft.old.layout (prepend_known window.old (I.left input.old)) (I.left input.new)
         (I.faults input.old) (I.faults input.new)) }
-    ensures told { IsTold (I.faults input.old) (I.faults input.new) result }
+    ensures reported { IsReported (I.faults input.old) (I.faults input.new) result }
 {
     loop {
         if draft.lines_read() == MOST_LINES {
@@ -227,7 +227,7 @@ pub fn read_script<I: Source>(alloc: Global, input: &mut I) -> Result<Script, Sc
     ensures few { IfOk result (λ s. head_lines s.layout.version + length s.lines ≤ 100000) }
     ensures end { OnOk result (IsAtEnd (I.left input.new)) }
     ensures fault { IfErr result (HasReason (I.left input.old) (I.left input.new) (I.faults input.old) (I.faults input.new)) }
-    ensures told { IsTold (I.faults input.old) (I.faults input.new) result }
+    ensures reported { IsReported (I.faults input.old) (I.faults input.new) result }
 {
     let mut window = Window::new();
     let layout = match head(&mut window, input) {

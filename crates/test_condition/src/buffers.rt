@@ -78,7 +78,7 @@ fn alerted_take(rt: HostRuntime) -> Result<(), Fail> {
 }
 
 /// Returns how many puts were refused, of all threads together.
-fn refused(left: &[Left]) -> u64 {
+fn refusals(left: &[Left]) -> u64 {
     let mut all: u64 = 0;
     for one in left {
         if let Left::Refused(refused) = one {
@@ -146,14 +146,14 @@ fn count_all(left: &[Left]) -> [u64; 3] {
 #[test]
 fn each_item_once(rt: HostRuntime) -> Result<(), Fail> {
     let (_, left) = ended(&rt, rt.alloc(), 4, 1, Task::Pass)?;
-    let (refused, came) = (refused(&left), count_all(&left));
+    let (refused, came) = (refusals(&left), count_all(&left));
     drop(left);
     has_numbers(&came, &[1000, 1000, 1000])?;
     has_numbers(&[refused], &[0])
 }
 
 /// Returns how often each item was taken.
-fn counted(alloc: Global, left: &[Left]) -> Result<Vec<u32>, AllocError> {
+fn counts(alloc: Global, left: &[Left]) -> Result<Vec<u32>, AllocError> {
     let mut counts = vec![in alloc; 0u32; MANY]?;
     for one in left {
         let Left::TookMany(took) = one else {
@@ -170,7 +170,7 @@ fn counted(alloc: Global, left: &[Left]) -> Result<Vec<u32>, AllocError> {
 
 /// Returns how many of the items were taken once.
 fn taken_once(alloc: Global, left: &[Left]) -> Result<u64, AllocError> {
-    let counts = counted(alloc, left)?;
+    let counts = counts(alloc, left)?;
     let mut once: u64 = 0;
     for count in &counts {
         if *count == 1 {
@@ -199,7 +199,7 @@ fn how_many(left: &[Left]) -> [u64; 2] {
 #[test]
 fn many_items_once(rt: HostRuntime) -> Result<(), Fail> {
     let (end, left) = ended(&rt, rt.alloc(), 8, 8, Task::PassMany)?;
-    let (refused, taken) = (refused(&left), how_many(&left));
+    let (refused, taken) = (refusals(&left), how_many(&left));
     let once = taken_once(rt.alloc(), &left);
     drop(left);
     has_numbers(&taken, &[200_000, 0])?;

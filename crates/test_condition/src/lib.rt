@@ -11,11 +11,11 @@ mod buffers;
 #[cfg(test)]
 mod calls;
 #[cfg(test)]
-mod coming;
-#[cfg(test)]
 mod conditions;
 #[cfg(test)]
-mod keeping;
+mod kept_mutex;
+#[cfg(test)]
+mod late_writer;
 #[cfg(test)]
 mod notes;
 #[cfg(test)]

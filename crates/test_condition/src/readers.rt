@@ -1,5 +1,5 @@
 //! Tests of readers and writers.
-use crate::coming::run_coming;
+use crate::late_writer::run_coming;
 use crate::turns::{Pair, run_four, run_two};
 use nub::Closed;
 use readers_writers::{RwState, RwUses};

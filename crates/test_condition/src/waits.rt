@@ -3,7 +3,7 @@ ghost use Rattle.std.specs.Prelude.{[], ◌≡◌, ◌<◌, ◌≤◌};
 ghost use Rattle.nub.specs.Ended.{IsDone};
 ghost use Rattle.nub.specs.Idle.{IsIdle};
 
-use crate::keeping::wait_or_keep;
+use crate::kept_mutex::wait_or_keep;
 use crate::notes::{Notes, await_count};
 use condition::{broadcast, signal};
 use nub::{CondId, MutexId, Package, Thread};

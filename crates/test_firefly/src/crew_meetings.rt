@@ -78,7 +78,7 @@ fn run_on_caller<R: Threads + Wait>(
 }
 
 #[test]
-fn all_jobs_run_on_the_caller_behind_its_own_part_where_none_is_started(
+fn all_jobs_run_on_the_caller_after_its_own_part_where_none_is_started(
     rt: HostRuntime,
 ) -> Result<(), Fail> {
     let (results, own, held) = run_on_caller(&rt, rt.alloc())?;

@@ -20,7 +20,7 @@ end 0
 "
 }
 
-fn signalled() -> &'static str {
+fn signal_script() -> &'static str {
     "firefly-trace 1
 threads 2 mutexes 1 conditions 1 semaphores 0
 0 t0 acquire m0
@@ -140,7 +140,7 @@ fn reports_read<R: Threads + Wait + Sync + Abort>(
 
 #[test]
 fn a_failed_read_is_reported_and_nothing_is_printed(rt: HostRuntime) -> Result<(), AllocError> {
-    reports_read(&rt, rt.alloc(), "check", signalled(), 20)
+    reports_read(&rt, rt.alloc(), "check", signal_script(), 20)
 }
 
 #[test]

@@ -21,7 +21,7 @@ mod same;
 #[cfg(test)]
 mod script_meetings;
 #[cfg(test)]
-mod script_reading;
+mod script_texts;
 #[cfg(test)]
 mod statuses;
 #[cfg(test)]

@@ -5,8 +5,8 @@ ghost use Rattle.nub.specs.Forks.{IsLeft};
 ghost use Rattle.nub.specs.Idle.{IsIdle};
 ghost use Rattle.test_fork.specs.Families.{AllAre};
 
-use crate::closing::close;
 use crate::family::{forked, join_other};
+use crate::package_end::close;
 use crate::run::layout_of;
 use nub::{Closed, Ended, Package, Thread, Unborn, end_thread, open_forked};
 use std::alloc::{AllocError, Global};

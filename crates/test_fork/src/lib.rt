@@ -5,8 +5,6 @@
 #[cfg(test)]
 mod chain;
 #[cfg(test)]
-mod closing;
-#[cfg(test)]
 mod family;
 #[cfg(test)]
 mod forks;
@@ -16,5 +14,7 @@ mod late;
 mod lives;
 #[cfg(test)]
 mod notes;
+#[cfg(test)]
+mod package_end;
 #[cfg(test)]
 mod run;

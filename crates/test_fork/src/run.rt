@@ -6,10 +6,10 @@ ghost use Rattle.nub.specs.Forks.{IsLeft};
 ghost use Rattle.nub.specs.Idle.{IsIdle};
 ghost use Rattle.test_fork.specs.Families.{AllAre};
 
-use crate::closing::close;
 use crate::family::{Family, families, join_other};
 use crate::lives::{Task, live};
 use crate::notes::{Notes, count};
+use crate::package_end::close;
 use alerts::alert;
 use nub::{Closed, Ended, Layout, Package, Thread, ThreadId, Version, end_thread, open_forked};
 use std::alloc::{AllocError, Global};

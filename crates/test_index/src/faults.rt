@@ -12,7 +12,7 @@ use std::test::Fail;
 use std::thread::Threads;
 
 // The paths of the small tree whose bits are set.
-fn chosen(alloc: Global, bits: u32) -> Result<Vec<&'static str>, Fail> {
+fn chosen_paths(alloc: Global, bits: u32) -> Result<Vec<&'static str>, Fail> {
     let mut paths = Vec::new(alloc);
     let mut rest = bits;
     for path in small_paths() {
@@ -82,7 +82,7 @@ fn wrong_set<R: Threads + Wait + Sync>(
     requires { IsPlan plan.now }
 {
     for bits in 0..32u32 {
-        let failing = chosen(alloc, bits)?;
+        let failing = chosen_paths(alloc, bits)?;
         if !is_answered(rt, alloc, tree, plan, &failing)? {
             return Ok(Some(bits));
         }

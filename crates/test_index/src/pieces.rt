@@ -15,7 +15,7 @@ fn piece(alloc: Global, path: &str, bytes: &[u8]) -> Result<Piece, Fail> {
 
 // Merges the two pieces into one. This is a function of its own so that the condition of the merge
 // is proved with nothing else alive, which takes far less time.
-fn merged(one: Piece, other: Piece) -> Result<Piece, Fail> {
+fn merge_of(one: Piece, other: Piece) -> Result<Piece, Fail> {
     if one.meets(&other) {
         drop(one);
         drop(other);
@@ -63,7 +63,7 @@ fn a_merge_counts_both_files(rt: HostRuntime) -> Result<(), Fail> {
             return Err(fault);
         }
     };
-    let index = merged(readme, run)?;
+    let index = merge_of(readme, run)?;
     let counts = counts(&index);
     let (file, dir) = (covers(&index, "src/run.rs"), covers(&index, "src"));
     drop(index);

@@ -99,7 +99,7 @@ fn tree_lists_what_was_added(rt: HostRuntime) -> Result<(), Fail> {
 }
 
 #[test]
-fn tree_fails_where_it_is_told_to(rt: HostRuntime) -> Result<(), Fail> {
+fn tree_fails_where_it_is_reported_to(rt: HostRuntime) -> Result<(), Fail> {
     let alloc = rt.alloc();
     let mut tree = failing_tree(alloc)?;
     let is_list_refused = list_fault(alloc, &mut tree, "proj").is_some();

@@ -1,8 +1,8 @@
 //! The parts of threads in tests of alerts. Thread 0 is alerted.
 use crate::alerted::{raise_alone, wait_for_wakes};
-use crate::alerting::{alert_often, alert_oneself, raise_often, test_twice, wait_often};
+use crate::alerted_thread::{alert_often, alert_oneself, raise_often, test_twice, wait_often};
 use crate::notes::Notes;
-use crate::racing::{ALERTED, Act, act_often, await_start};
+use crate::races::{ALERTED, Act, act_often, await_start};
 use crate::untils::{returns_once, works_once};
 use alerts::alert;
 use nub::{Package, Thread};

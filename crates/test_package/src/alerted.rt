@@ -3,7 +3,7 @@ ghost use Rattle.std.specs.Prelude.{[], ◌≤◌};
 ghost use Rattle.nub.specs.Idle.{IsIdle};
 
 use crate::notes::Notes;
-use crate::racing::{ALERTED, await_both, let_both_go, take_all};
+use crate::races::{ALERTED, await_both, let_both_go, take_all};
 use alert_wait::{Outcome, alert_wait};
 use alerts::{alert, test_alert};
 use nub::{CondId, MutexId, NoChange, Package, Thread};

@@ -13,13 +13,13 @@ mod alert_waits;
 #[cfg(test)]
 mod alerted;
 #[cfg(test)]
-mod alerting;
+mod alerted_thread;
 #[cfg(test)]
 mod mutex;
 #[cfg(test)]
 mod notes;
 #[cfg(test)]
-mod racing;
+mod races;
 #[cfg(test)]
 mod semaphore;
 #[cfg(test)]

@@ -3,7 +3,7 @@ ghost use Rattle.std.specs.Prelude.{[], ◌≤◌};
 ghost use Rattle.nub.specs.Idle.{IsIdle};
 
 use crate::notes::Notes;
-use crate::racing::ALERTED;
+use crate::races::ALERTED;
 use alert_wait::Outcome;
 use alerts::alert;
 use monitor::{alert_locked_when, alert_wait_until};

@@ -8,10 +8,10 @@
 
 mod layouts;
 mod part;
-mod running;
+mod runs;
 mod seen;
 
 pub use layouts::{few_of_each, largest};
 pub use part::Part;
-pub use running::{leaves, plays, run};
+pub use runs::{leaves, plays, run};
 pub use seen::{event, has_left, has_numbers, has_played};

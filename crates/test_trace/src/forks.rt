@@ -185,7 +185,7 @@ fn print_all<O: Sink>(out: &mut O) -> Result<(), SinkFault> {
 }
 
 // What is printed.
-fn printed() -> &'static [u8] {
+fn fork_text() -> &'static [u8] {
     b"firefly-trace 2
 threads 256 mutexes 1 conditions 1 semaphores 0
 0 t0 fork t255
@@ -200,6 +200,6 @@ end 4
 fn forks_ends_and_joins_are_printed(rt: HostRuntime) -> Result<(), Fail> {
     let mut sink = MemSink::with_room(rt.alloc(), 2000)?;
     print_all(&mut sink)?;
-    same(&rt, &sink.bytes(), &printed());
+    same(&rt, &sink.bytes(), &fork_text());
     Ok(())
 }

@@ -111,7 +111,7 @@ fn bad_lines() -> [(&'static [u8], TextFault); 12] {
 }
 
 // How many events a text of the head and these lines has.
-fn count_behind_head(alloc: Global, lines: &[u8]) -> Result<Result<u64, TextFault>, AllocError> {
+fn count_after_head(alloc: Global, lines: &[u8]) -> Result<Result<u64, TextFault>, AllocError> {
     let mut text = HEAD.to_vec(alloc)?;
     text.extend_from_slice(lines)?;
     count_of(alloc, &text, 10_000, None)
@@ -120,7 +120,7 @@ fn count_behind_head(alloc: Global, lines: &[u8]) -> Result<Result<u64, TextFaul
 #[test]
 fn bad_lines_show(rt: HostRuntime) -> Result<(), Fail> {
     for (lines, fault) in bad_lines() {
-        same(&rt, &count_behind_head(rt.alloc(), lines)?, &Err(fault));
+        same(&rt, &count_after_head(rt.alloc(), lines)?, &Err(fault));
     }
     Ok(())
 }

@@ -4,7 +4,7 @@ ghost use Rattle.larch_actions.specs.declared.event.CondId.{CondId};
 ghost use Rattle.nub.specs.Holding.{IsHolding};
 ghost use Rattle.nub.specs.Idle.{IsIdle};
 ghost use Rattle.nub_rule.specs.Plays.{acquire_event, release_event};
-ghost use Rattle.nub.specs.Rest.{Added as Told, AtRest};
+ghost use Rattle.nub.specs.Rest.{Added as RecordsTwo, AtRest};
 ghost use Rattle.monitor.specs.Waits.{AreRefused, waits};
 ghost use Rattle.test_turns.specs.Turns.{Wakes, ends_turn};
 ghost use Rattle.larch_actions.specs.declared.event.Event.{Event};
@@ -43,7 +43,7 @@ fn wake_up<R: Wait>(rt: &R, p: &Package<SumUses>, me: &mut Thread<SumUses>, whom
     requires rest { AtRest p.now me.old }
     requires one { (c : CondId) → whom ≡ One c → c.0 < p.now.layout.conditions }
     requires all { (c : CondId) → whom ≡ All c → c.0 < p.now.layout.conditions }
-    ensures woke { (es : List Event) × Wakes whom me.old.number es × Told es me.old me.new }
+    ensures woke { (es : List Event) × Wakes whom me.old.number es × RecordsTwo es me.old me.new }
     ensures rest { AtRest p.now me.new }
     ensures idle { (n : ℕ) (s : List Added) → IsIdle p.now n s me.old → IsIdle p.now n s me.new }
     ensures holding { (n m : ℕ) (s : List Added) (x : ℕ) → IsHolding p.now n m s x me.old → IsHolding p.now n m s x me.new }
@@ -71,7 +71,7 @@ fn end_turn<R: Wait>(
     requires holding { (n : ℕ) × (s : List Added) × (x : ℕ) × IsHolding p.now n turn.mutex.0 s x me.old
         × GrowsAlike turn.mutex.0 x value s (grown turn.mutex.0 x value s) }
     ensures woke { (es : List Event) × Wakes whom me.old.number es
-        × Told (ends_turn turn.after (release_event me.old.number turn.mutex.0) es) me.old me.new }
+        × RecordsTwo (ends_turn turn.after (release_event me.old.number turn.mutex.0) es) me.old me.new }
     ensures idle { (n : ℕ) (s : List Added) (x : ℕ) → IsHolding p.now n turn.mutex.0 s x me.old
         → IsIdle p.now n (grown turn.mutex.0 x value s) me.new }
 {
@@ -107,7 +107,7 @@ pub fn take_turn<F: Fn(u64) -> bool, G: Fn(u64) -> Wake, R: Wait>(
     requires few { (s : List Added) → me.old.share ≡ Some s → added turn.mutex.0 s < 100000000000 }
     ensures goes { F.post may_go.now result true }
     ensures part { (whom : Wake) × G.post part.now result whom
-        × ((k : ℕ) × (es : List Event) × Wakes whom me.old.number es × Told (acquire_event me.old.number turn.mutex.0
+        × ((k : ℕ) × (es : List Event) × Wakes whom me.old.number es × RecordsTwo (acquire_event me.old.number turn.mutex.0
         ∷ (waits me.old.number turn.mutex.0 turn.cond.0 k ++ ends_turn turn.after (release_event me.old.number turn.mutex.0) es))
         me.old me.new × AreRefused (λ x. F.post may_go.now x false) k) }
     ensures idle { (n : ℕ) (s : List Added) → IsIdle p.now n s me.old → IsIdle p.now n (grown turn.mutex.0 result (result + 1) s) me.new }

@@ -1,4 +1,4 @@
--- Pieces put one behind the other.
+-- Pieces put one after the other.
 use Rattle.std.proofs.Common.{◌≡◌, ℕ, ◌+◌, ◌<◌, ◌≤◌, Bool, true, false, not, cond, ◌==◌, ◌&&◌, List, [], ◌∷◌, ◌++◌, length, get_or, take, drop, Option, Some, None, Result, Ok, Err, IsErr, refl, sym, ap, subst, ◌∙◌, append-nil, OnOk, OnErr, inl, inr, arith}
 use Rattle.std.specs.Io.KnownBytes.{Appends}
 use Rattle.std.specs.Cmp.{first_so, second_so}
@@ -8,15 +8,15 @@ use Rattle.std.proofs.lemmas.List.Concat.{flat_map-append}
 use Rattle.firefly_outside.specs.Causes.{AppendsPrefix, HasCause}
 use Rattle.text_output.specs.Sent.{Sends, Puts}
 use Rattle.text_output.specs.Paths.{is_plain_byte, escaped, escaped_byte}
-use Rattle.text_output.proofs.Prefixes.{appends_then, prefix_behind, sends_then, fails_then, fails_first}
+use Rattle.text_output.proofs.Prefixes.{appends_then, prefix_past, sends_then, fails_then, fails_first}
 
-appends_none : (told : Option (List ℕ)) → Appends told told []
+appends_none : (reported : Option (List ℕ)) → Appends reported reported []
 appends_none None = tt
 appends_none (Some xs) = sym (append-nil xs)
 
 -- nothing was put
-pub sends_none : (told : Option (List ℕ)) (held : List ℕ) → Sends told held [] told held
-sends_none told held = ([], appends_none told, sym (append-nil held))
+pub sends_none : (reported : Option (List ℕ)) (held : List ℕ) → Sends reported held [] reported held
+sends_none reported held = ([], appends_none reported, sym (append-nil held))
 
 module _ {E : Type 0} where
   -- one piece, and then the next, whichever way that went
@@ -30,12 +30,12 @@ module _ {E : Type 0} where
   puts_failed (Err e) t0 t1 h0 h1 p is k = k
 
   -- what was held went first
-  pub puts_behind : (r : Result (Unit {0}) E) (t0 t1 t2 : Option (List ℕ)) (held piece now : List ℕ) → now ≡ [] → Appends t0 t1 held
+  pub puts_after : (r : Result (Unit {0}) E) (t0 t1 t2 : Option (List ℕ)) (held piece now : List ℕ) → now ≡ [] → Appends t0 t1 held
       → OnOk r (Appends t1 t2 piece) → OnErr r (AppendsPrefix t1 t2 piece) → Puts t0 held piece r t2 now
-  puts_behind (Ok u) t0 t1 t2 held piece now empty a b c = (held ++ piece, appends_then t0 t1 t2 held piece a b, rw empty (append-nil (held ++ piece)))
-  puts_behind (Err e) t0 t1 t2 held piece now empty a b c = prefix_behind t0 t1 t2 held piece a c
+  puts_after (Ok u) t0 t1 t2 held piece now empty a b c = (held ++ piece, appends_then t0 t1 t2 held piece a b, rw empty (append-nil (held ++ piece)))
+  puts_after (Err e) t0 t1 t2 held piece now empty a b c = prefix_past t0 t1 t2 held piece a c
 
--- an element of a list, behind those before it
+-- an element of a list, after those before it
 module _ {X : Type 0} (f : X → List ℕ) (xs : List X) (i : ℕ) (d : X) (here : i < length xs) where
   next : flat_map f (take (i + 1) xs) ≡ flat_map f (take i xs) ++ f (get_or xs i d)
   next =
@@ -83,9 +83,9 @@ pub on_err_then : {E : Type 0} {P Q : Type 0} (r : Result (Unit {0}) E) → OnEr
 on_err_then (Ok u) h f = tt
 on_err_then (Err e) h f = f h
 
--- what was held went behind what was sent
+-- what was held went after what was sent
 pub flushed_prefix : (t0 t1 t2 : Option (List ℕ)) (h p : List ℕ) → Sends t0 [] p t1 h → AppendsPrefix t1 t2 h → AppendsPrefix t0 t2 p
-flushed_prefix t0 t1 t2 h p a k = subst (AppendsPrefix t0 t2) a.2 (prefix_behind t0 t1 t2 a.0 h a.1 k)
+flushed_prefix t0 t1 t2 h p a k = subst (AppendsPrefix t0 t2) a.2 (prefix_past t0 t1 t2 a.0 h a.1 k)
 
 pub on_err_if : {E : Type 0} {P : Type 0} (r : Result (Unit {0}) E) → P → OnErr r P
 on_err_if (Ok u) h = tt
@@ -104,6 +104,6 @@ pub on_ok_then : {E : Type 0} {P Q : Type 0} (r : Result (Unit {0}) E) → OnOk 
 on_ok_then (Ok u) h f = f h
 on_ok_then (Err e) h f = tt
 
--- what was held went behind what was sent, whole
+-- what was held went after what was sent, whole
 pub flushed_whole : (t0 t1 t2 : Option (List ℕ)) (h p : List ℕ) → Sends t0 [] p t1 h → Appends t1 t2 h → Appends t0 t2 p
 flushed_whole t0 t1 t2 h p a k = subst (Appends t0 t2) a.2 (appends_then t0 t1 t2 a.0 h a.1 k)

@@ -5,9 +5,9 @@ use Rattle.firefly_outside.specs.Causes.{AppendsPrefix}
 
 -- what was held and the piece are what is now sent and held
 abbrev pub Sends : Option (List ℕ) → List ℕ → List ℕ → Option (List ℕ) → List ℕ → Type 0
-Sends told held piece told' held' = (sent : List ℕ) × Appends told told' sent × (sent ++ held' ≡ held ++ piece)
+Sends reported held piece reported' held' = (sent : List ℕ) × Appends reported reported' sent × (sent ++ held' ≡ held ++ piece)
 
 -- the whole piece was sent or held, or a prefix of what was held and the piece was sent
 abbrev pub Puts : {E : Type 0} → Option (List ℕ) → List ℕ → List ℕ → Result (Unit {0}) E → Option (List ℕ) → List ℕ → Type 0
-Puts told held piece result told' held' =
-    MatchResult result (λ _. Sends told held piece told' held') (λ _. AppendsPrefix told told' (held ++ piece))
+Puts reported held piece result reported' held' =
+    MatchResult result (λ _. Sends reported held piece reported' held') (λ _. AppendsPrefix reported reported' (held ++ piece))

@@ -3,7 +3,7 @@ use Rattle.std.proofs.Common.{◌≡◌, ◌<◌, ◌≤◌, ◌+◌, ◌++◌, 
 use Rattle.std.proofs.lemmas.Bool.{cases_lt}
 use Rattle.std.specs.List.{sum_by}
 use Rattle.std.proofs.lemmas.List.Sums.{sum_by-append}
-use Rattle.thread_crew.specs.Crews.{Told, held_in}
+use Rattle.thread_crew.specs.Crews.{IsHeldCount, held_in}
 use Rattle.thread_crew.specs.declared.child.Child.{Child}
 use Rattle.thread_crew.specs.declared.child.Child.TheVariants.{Started, Held}
 
@@ -28,8 +28,8 @@ pub fits : (len all got capacity : ℕ) → len ≡ all → got ≡ all → got 
 fits len all got capacity e is h = omega arith
 
 -- one more was started or held
-pub told_still : (before len more starts was now : ℕ) → before ≡ len → more ≡ len + 1 → len ≤ starts + was → (starts ≤ before → now ≡ was + 1) → (h : ℕ) → now ≡ was + h → more ≤ starts + now
-told_still before len more starts was now is took told counted k exact = ⊎_elim
+pub recorded_still : (before len more starts was now : ℕ) → before ≡ len → more ≡ len + 1 → len ≤ starts + was → (starts ≤ before → now ≡ was + 1) → (h : ℕ) → now ≡ was + h → more ≤ starts + now
+recorded_still before len more starts was now is took recorded counted k exact = ⊎_elim
     (λ (h : before < starts). omega arith)
     (λ (h : starts ≤ before). let one = counted h in omega arith)
     (cases_lt before starts)
@@ -46,8 +46,8 @@ held_still children more child was now is counted exact =
     let same = ap (λ l. sum_by held_in l) is in
     omega arith
 
-pub told_of : (starts len jobs held : ℕ) → len ≡ jobs → len ≤ starts + held → held ≤ len → Told starts jobs held
-told_of starts len jobs held is told few = record { enough = omega arith; few = omega arith }
+pub recorded_of : (starts len jobs held : ℕ) → len ≡ jobs → len ≤ starts + held → held ≤ len → IsHeldCount starts jobs held
+recorded_of starts len jobs held is recorded few = record { enough = omega arith; few = omega arith }
 
 -- nothing was taken yet
 module _ (len left : ℕ) (empty : len ≡ 0) where

@@ -32,6 +32,6 @@ abbrev pub Turns : {A B C : Type 0} → (A → B → Type 0) → (A → C → Ty
 Turns {A} R S b c = (a : A) → R a b → S a c
 
 -- how many of the jobs weren't started: all after so many starts, and of the others those whose thread couldn't be made
-pub record Told (starts jobs held : ℕ) : Type 0 where
+pub record IsHeldCount (starts jobs held : ℕ) : Type 0 where
   pub enough : jobs ≤ starts + held
   pub few : held ≤ jobs

@@ -1,7 +1,7 @@
 //! Jobs that a crew hands to one closure.
 ghost use Rattle.std.specs.Prelude.{◌≡◌, ◌≤◌, ℕ, [], map, length, vec_len, vec_capacity, IfOk, IfErr};
 ghost use Rattle.std.specs.List.{AllZip, AllByRecursion};
-ghost use Rattle.thread_crew.specs.Crews.{Told};
+ghost use Rattle.thread_crew.specs.Crews.{IsHeldCount};
 
 use crate::crews::run_tasks;
 use crate::outcome::{Finished, NotRun};
@@ -60,9 +60,9 @@ pub fn run_crew<
     between: M,
 ) -> Result<Finished<X, Y>, NotRun<T, O, M>>
     requires jobs { AllByRecursion (λ j. F.pre f.now j) jobs.items }
-    requires between { (held : ℕ) → Told starts (length jobs.items) held → M.pre between own held }
+    requires between { (held : ℕ) → IsHeldCount starts (length jobs.items) held → M.pre between own held }
     ensures done { IfOk result (λ r. AllZip (λ j x. F.post f.now j x) jobs.items r.results.items) }
-    ensures held { IfOk result (λ r. Told starts (length jobs.items) r.held) }
+    ensures held { IfOk result (λ r. IsHeldCount starts (length jobs.items) r.held) }
     ensures between { IfOk result (λ r. M.post between own r.held r.between) }
     ensures jobs_back { IfErr result (λ back. back.jobs.items ≡ jobs.items) }
     ensures own_back { IfErr result (λ back. back.own ≡ own) }

@@ -1,7 +1,7 @@
 //! Starting the tasks of a crew, and joining them.
 ghost use Rattle.std.specs.Prelude.{◌≡◌, ◌≤◌, ◌<◌, ◌+◌, ◌^◌, ℕ, [], List, vec_len, vec_capacity, IfOk, IfErr, IfSome, length};
 ghost use Rattle.std.specs.List.{AllZip, AllByRecursion, sum_by};
-ghost use Rattle.thread_crew.specs.Crews.{HasRoom, IsChildOf, IsRunning, Told, Turns, held_in};
+ghost use Rattle.thread_crew.specs.Crews.{HasRoom, IsChildOf, IsRunning, IsHeldCount, Turns, held_in};
 
 use crate::child::{Child, Running};
 use crate::outcome::{Finished, NotRun};
@@ -188,9 +188,9 @@ fn in_scope<
     own: O,
     between: M,
 ) -> Result<Finished<X, Y>, NotRun<T, O, M>>
-    requires { AllByRecursion T.can_run jobs.items × ((held : ℕ) → Told starts (length jobs.items) held → M.pre between own held) }
+    requires { AllByRecursion T.can_run jobs.items × ((held : ℕ) → IsHeldCount starts (length jobs.items) held → M.pre between own held) }
     ensures { IfOk result (λ r. AllZip T.run_gives jobs.items r.results.items)
-        × IfOk result (λ r. Told starts (length jobs.items) r.held × M.post between own r.held r.between)
+        × IfOk result (λ r. IsHeldCount starts (length jobs.items) r.held × M.post between own r.held r.between)
         × IfErr result (λ back. (back.jobs ≡ jobs) × (back.own ≡ own) × (back.between ≡ between)) }
 {
     let Some((mut children, later)) = lists_for(alloc, jobs.len()) else {
@@ -228,9 +228,9 @@ pub(crate) fn run_tasks<
     between: M,
 ) -> Result<Finished<X, Y>, NotRun<T, O, M>>
     requires jobs { AllByRecursion T.can_run jobs.items }
-    requires between { (held : ℕ) → Told starts (length jobs.items) held → M.pre between own held }
+    requires between { (held : ℕ) → IsHeldCount starts (length jobs.items) held → M.pre between own held }
     ensures done { IfOk result (λ r. AllZip T.run_gives jobs.items r.results.items) }
-    ensures between { IfOk result (λ r. Told starts (length jobs.items) r.held × M.post between own r.held r.between) }
+    ensures between { IfOk result (λ r. IsHeldCount starts (length jobs.items) r.held × M.post between own r.held r.between) }
     ensures back { IfErr result (λ back. (back.jobs ≡ jobs) × (back.own ≡ own) × (back.between ≡ between)) }
 {
     thread::scope(
@@ -238,9 +238,9 @@ pub(crate) fn run_tasks<
         rt,
         |scope| -> Result<Finished<X, Y>, NotRun<T, O, M>>
             requires { AllByRecursion T.can_run jobs.items
-                × ((held : ℕ) → Told starts (length jobs.items) held → M.pre between own held) }
+                × ((held : ℕ) → IsHeldCount starts (length jobs.items) held → M.pre between own held) }
             ensures { IfOk result (λ r. AllZip T.run_gives jobs.items r.results.items)
-                × IfOk result (λ r. Told starts (length jobs.items) r.held × M.post between own r.held r.between)
+                × IfOk result (λ r. IsHeldCount starts (length jobs.items) r.held × M.post between own r.held r.between)
                 × IfErr result (λ back. (back.jobs ≡ jobs) × (back.own ≡ own) × (back.between ≡ between)) }
         { in_scope(scope, rt, alloc, jobs, starts, own, between) },
     )

@@ -18,10 +18,10 @@ use Rattle.trace_board.specs.History.{origin_of}
 use Rattle.trace_board.specs.Awaited.{is_awaited}
 use Rattle.trace_board.specs.Causes.{taken, opened, come, moved}
 use Rattle.trace_board.specs.Marks.{marks_of}
-use Rattle.trace_board.specs.Kept.{Kept, nothing_kept, kept_after, kept_since, behind, came, let_on_by, has_run}
+use Rattle.trace_board.specs.Tracked.{Tracked, nothing_tracked, tracked_after, tracked_since, extended, came, let_on_by, has_run}
 use Rattle.trace_board.specs.Laws.{awaited_by, IsMadeBy, ArrowsAreCauses, RowsAreLives, ForksAreBirths}
 use Rattle.trace_board.proofs.Agreeing.{stands_in, is_come, Fits, IsOn, fits_after, members_after, avail_after, alerts_after}
-use Rattle.trace_board.proofs.Behind.{behind-push, length-behind}
+use Rattle.trace_board.proofs.Extended.{extended-push, length-extended}
 use Rattle.trace_board.proofs.Making.{leads_push, made}
 use Rattle.trace_board.proofs.Living.{IsLife, life_first, life_on}
 use Rattle.trace_board.proofs.Latest.{runs_are_seen}
@@ -33,7 +33,7 @@ IsWaitOn c (Waiting m d) = c ≡ d.0
 IsWaitOn c (AlertWaiting m d) = c ≡ d.0
 
 -- what is kept tells of the state, and of each cause that came which event it was
-pub record IsTold (version : Version) (k : Kept) (es : List Event) (s : Spec) : Type 0 where
+pub record IsReported (version : Version) (k : Tracked) (es : List Event) (s : Spec) : Type 0 where
   pub stands : (c x : ℕ) → s.members c x ≡ stands_in c (k.stands x)
   pub fits : (x : ℕ) → Fits (s.pending x) (k.stands x)
   pub opens : (n : ℕ) → s.avail n ≡ not (is_awaited (k.opens n))
@@ -170,7 +170,7 @@ waits_there c (AlertWaiting m d) (Awaited k) h w e = here c k d.0 h w
     here c k d (inl i) w = eq-eqb c k (let same : k ≡ d = cc in w ∙ sym same)
     here c k d (inr (o, i)) w = absurd (not_awaited k o i)
 
-module _ (version : Version) (k : Kept) (es : List Event) (s : Spec) (e : Event) (r : IsRun version es s) (may : MayAct s e) (told : IsTold version k es s) where
+module _ (version : Version) (k : Tracked) (es : List Event) (s : Spec) (e : Event) (r : IsRun version es s) (may : MayAct s e) (reported : IsReported version k es s) where
   abbrev t : ℕ
   t = e.thread.0
 
@@ -183,17 +183,17 @@ module _ (version : Version) (k : Kept) (es : List Event) (s : Spec) (e : Event)
   abbrev next : Spec
   next = acted e.thread.0 s e.action
 
-  abbrev later : Kept
-  later = kept_after (length es) e k
+  abbrev later : Tracked
+  later = tracked_after (length es) e k
 
   stands : (c x : ℕ) → next.members c x ≡ stands_in c (later.stands x)
-  stands c x = members_after t o k.stands s told.fits told.stands c x a may.order may.when_met may.choice_met
+  stands c x = members_after t o k.stands s reported.fits reported.stands c x a may.order may.when_met may.choice_met
 
   opens : (n : ℕ) → next.avail n ≡ not (is_awaited (later.opens n))
-  opens = avail_after t a o k.opens s told.opens
+  opens = avail_after t a o k.opens s reported.opens
 
   alerts : (x : ℕ) → next.alerts x ≡ is_come (later.alerts x)
-  alerts = alerts_after t a o k.alerts s told.alerts
+  alerts = alerts_after t a o k.alerts s reported.alerts
 
   out : (x : ℕ) (p : Origin) → later.stands x ≡ By p → (c : ℕ) → IsWaitOn c (next.pending x) → IsMadeBy version (λ z. not (z.members c x)) (es ++ e ∷ []) next p
   out x p h c w =
@@ -202,28 +202,28 @@ module _ (version : Version) (k : Kept) (es : List Event) (s : Spec) (e : Event)
       made version (λ z. not (z.members c x)) es s e next (may, refl) (ap not (stands c x ∙ ap (stands_in c) h)) p r (was from.1 waits)
     where
       was : IsFrom (k.stands x) p o → IsWaitOn c (s.pending x) → (IsMadeBy version (λ z. not (z.members c x)) es s p) ⊎ ((p ≡ o) × (not (s.members c x) ≡ false))
-      was (inl h) w = inl (told.out x p h c w)
-      was (inr (same, aw)) w = inr (same, ap not (told.stands c x ∙ waits_there c (s.pending x) (k.stands x) (told.fits x) w aw))
+      was (inl h) w = inl (reported.out x p h c w)
+      was (inr (same, aw)) w = inr (same, ap not (reported.stands c x ∙ waits_there c (s.pending x) (k.stands x) (reported.fits x) w aw))
 
   opener : (n : ℕ) (p : Origin) → later.opens n ≡ By p → IsMadeBy version (λ z. z.avail n) (es ++ e ∷ []) next p
   opener n p h = made version (λ z. z.avail n) es s e next (may, refl) (opens n ∙ ap (λ y. not (is_awaited y)) h) p r (was (open_from o k.opens n p t a h))
     where
       was : IsFrom (k.opens n) p o → (IsMadeBy version (λ z. z.avail n) es s p) ⊎ ((p ≡ o) × (s.avail n ≡ false))
-      was (inl h) = inl (told.opener n p h)
-      was (inr (same, aw)) = inr (same, told.opens n ∙ ap not aw)
+      was (inl h) = inl (reported.opener n p h)
+      was (inr (same, aw)) = inr (same, reported.opens n ∙ ap not aw)
 
   alerted : (x : ℕ) (p : Origin) → later.alerts x ≡ By p → IsMadeBy version (λ z. z.alerts x) (es ++ e ∷ []) next p
   alerted x p h = made version (λ z. z.alerts x) es s e next (may, refl) (alerts x ∙ ap is_come h) p r (was (alert_from o k.alerts x p t a h))
     where
       was : IsAlertFrom o k.alerts x p (k.alerts x) → (IsMadeBy version (λ z. z.alerts x) es s p) ⊎ ((p ≡ o) × (s.alerts x ≡ false))
-      was (inl h) = inl (told.alerted x p h)
-      was (inr (same, un)) = inr (same, told.alerts x ∙ un)
+      was (inl h) = inl (reported.alerted x p h)
+      was (inr (same, un)) = inr (same, reported.alerts x ∙ un)
 
-  told_on : IsTold version later (es ++ e ∷ []) next
-  told_on = record { stands = stands; fits = fits_after t a o k.stands s told.fits; opens = opens; alerts = alerts; out = out; opener = opener; alerted = alerted; lives = λ x. life_on version k es s e r may x (told.lives x) }
+  reported_on : IsReported version later (es ++ e ∷ []) next
+  reported_on = record { stands = stands; fits = fits_after t a o k.stands s reported.fits; opens = opens; alerts = alerts; out = out; opener = opener; alerted = alerted; lives = λ x. life_on version k es s e r may x (reported.lives x) }
 
-told_first : (version : Version) → IsTold version nothing_kept [] (at_first version)
-told_first version = record {
+reported_first : (version : Version) → IsReported version nothing_tracked [] (at_first version)
+reported_first version = record {
   stands = λ c x. refl;
   fits = λ x. refl;
   opens = λ n. refl;
@@ -234,29 +234,29 @@ told_first version = record {
   lives = λ x. life_first version x;
 }
 
-kept-push : (es : List Event) (e : Event) → kept_after (length es) e (kept_since (behind [] es)) ≡ kept_since (behind [] (es ++ e ∷ []))
+kept-push : (es : List Event) (e : Event) → tracked_after (length es) e (tracked_since (extended [] es)) ≡ tracked_since (extended [] (es ++ e ∷ []))
 kept-push es e =
-    let n : length es ≡ length (behind [] es) = omega (arith, length-behind [] es) in
-    ap (λ i. kept_after i e (kept_since (behind [] es))) n ∙ ap kept_since (sym (behind-push [] es e))
+    let n : length es ≡ length (extended [] es) = omega (arith, length-extended [] es) in
+    ap (λ i. tracked_after i e (tracked_since (extended [] es))) n ∙ ap tracked_since (sym (extended-push [] es e))
 
-told_from : (version : Version) (done : List Event) (s : Spec) → IsRun version done s → IsTold version (kept_since (behind [] done)) done s → (es : List Event) (u : Spec) → Leads s es u → IsTold version (kept_since (behind [] (done ++ es))) (done ++ es) u
-told_from version done s r told [] u l =
-    subst (λ x. IsTold version (kept_since (behind [] x)) x u) (sym (append-nil done)) (subst (IsTold version (kept_since (behind [] done)) done) l told)
-told_from version done s r told (e ∷ es) u l =
+reported_from : (version : Version) (done : List Event) (s : Spec) → IsRun version done s → IsReported version (tracked_since (extended [] done)) done s → (es : List Event) (u : Spec) → Leads s es u → IsReported version (tracked_since (extended [] (done ++ es))) (done ++ es) u
+reported_from version done s r reported [] u l =
+    subst (λ x. IsReported version (tracked_since (extended [] x)) x u) (sym (append-nil done)) (subst (IsReported version (tracked_since (extended [] done)) done) l reported)
+reported_from version done s r reported (e ∷ es) u l =
     let n = acted e.thread.0 s e.action in
-    let after = subst (λ k. IsTold version k (done ++ e ∷ []) n) (kept-push done e) (told_on version (kept_since (behind [] done)) done s e r l.1.0 told) in
+    let after = subst (λ k. IsReported version k (done ++ e ∷ []) n) (kept-push done e) (reported_on version (tracked_since (extended [] done)) done s e r l.1.0 reported) in
     let rest : Leads n es u = subst (λ v. Leads v es u) l.1.1 l.2 in
-    subst (λ x. IsTold version (kept_since (behind [] x)) x u) (append_assoc done (e ∷ []) es) (told_from version (done ++ e ∷ []) n (leads_push done (at_first version) s e n r (l.1.0, refl)) after es u rest)
+    subst (λ x. IsReported version (tracked_since (extended [] x)) x u) (append_assoc done (e ∷ []) es) (reported_from version (done ++ e ∷ []) n (leads_push done (at_first version) s e n r (l.1.0, refl)) after es u rest)
 
-pub told_run : (version : Version) (es : List Event) (s : Spec) → IsRun version es s → IsTold version (kept_since (behind [] es)) es s
-told_run version es s r = told_from version [] (at_first version) refl (told_first version) es s r
+pub reported_run : (version : Version) (es : List Event) (s : Spec) → IsRun version es s → IsReported version (tracked_since (extended [] es)) es s
+reported_run version es s r = reported_from version [] (at_first version) refl (reported_first version) es s r
 
 came_by : (x : Cause) (o : Origin) → came x ≡ Some o → x ≡ By o
 came_by Never o h = let bad : None ≡ Some o = h in cc
 came_by (Awaited k) o h = let bad : None ≡ Some o = h in cc
 came_by (By p) o h = let same : Some p ≡ Some o = h in cc
 
-module _ (version : Version) (k : Kept) (es : List Event) (s : Spec) (told : IsTold version k es s) (t : ℕ) (o : Origin) where
+module _ (version : Version) (k : Tracked) (es : List Event) (s : Spec) (reported : IsReported version k es s) (t : ℕ) (o : Origin) where
   no_cause : (a : Action) → None ≡ Some o → IsMadeBy version (awaited_by t a) es s o
   no_cause a h = absurd (let bad : None ≡ Some o = h in cc)
 
@@ -264,27 +264,27 @@ module _ (version : Version) (k : Kept) (es : List Event) (s : Spec) (told : IsT
   by_action (Acquire m) order h = no_cause (Acquire m) h
   by_action (Release m) order h = no_cause (Release m) h
   by_action (Enqueue m c) order h = no_cause (Enqueue m c) h
-  by_action (Resume m c) order h = told.out t o (came_by (k.stands t) o h) c.0 (subst (IsWaitOn c.0) (sym order) refl)
+  by_action (Resume m c) order h = reported.out t o (came_by (k.stands t) o h) c.0 (subst (IsWaitOn c.0) (sym order) refl)
   by_action (AlertEnqueue m c) order h = no_cause (AlertEnqueue m c) h
-  by_action (AlertReturn m c) order h = told.out t o (came_by (k.stands t) o h) c.0 (subst (IsWaitOn c.0) (sym order) refl)
-  by_action (AlertRaise m c) order h = told.alerted t o (came_by (k.alerts t) o h)
+  by_action (AlertReturn m c) order h = reported.out t o (came_by (k.stands t) o h) c.0 (subst (IsWaitOn c.0) (sym order) refl)
+  by_action (AlertRaise m c) order h = reported.alerted t o (came_by (k.alerts t) o h)
   by_action (Signal c left) order h = no_cause (Signal c left) h
   by_action (Broadcast c) order h = no_cause (Broadcast c) h
-  by_action (P n) order h = told.opener n.0 o (came_by (k.opens n.0) o h)
+  by_action (P n) order h = reported.opener n.0 o (came_by (k.opens n.0) o h)
   by_action (V n) order h = no_cause (V n) h
   by_action (Alert who) order h = no_cause (Alert who) h
-  by_action (TestAlert b) order h = told.alerted t o (came_by (k.alerts t) o h)
-  by_action (AlertPReturn n) order h = told.opener n.0 o (came_by (k.opens n.0) o h)
-  by_action (AlertPRaise n) order h = told.alerted t o (came_by (k.alerts t) o h)
+  by_action (TestAlert b) order h = reported.alerted t o (came_by (k.alerts t) o h)
+  by_action (AlertPReturn n) order h = reported.opener n.0 o (came_by (k.opens n.0) o h)
+  by_action (AlertPRaise n) order h = reported.alerted t o (came_by (k.alerts t) o h)
   by_action (Fork who) order h = no_cause (Fork who) h
   by_action End order h = no_cause End h
-  by_action (Join who) order h = (told.lives who.0).ended o h
+  by_action (Join who) order h = (reported.lives who.0).ended o h
 
 pub arrows_are_causes : ArrowsAreCauses
-arrows_are_causes = λ version es s r e may o h. by_action version (kept_since (behind [] es)) es s (told_run version es s r) e.thread.0 o e.action may.order h
+arrows_are_causes = λ version es s r e may o h. by_action version (tracked_since (extended [] es)) es s (reported_run version es s r) e.thread.0 o e.action may.order h
 
 pub rows_are_lives : RowsAreLives
-rows_are_lives = λ version es s r t. ((told_run version es s r).lives t).is
+rows_are_lives = λ version es s r t. ((reported_run version es s r).lives t).is
 
 unrun : (b : Bool) (y : Option Origin) (o : Origin) → cond b None y ≡ Some o → (b ≡ false) × (y ≡ Some o)
 unrun true y o h = absurd (let bad : None ≡ Some o = h in cc)
@@ -292,6 +292,6 @@ unrun false y o h = (refl, h)
 
 pub forks_are_births : ForksAreBirths
 forks_are_births = λ version es s r e may o h.
-    let k = kept_since (behind [] es) in
+    let k = tracked_since (extended [] es) in
     let first = unrun (has_run k 0 e.thread.0) (k.born e.thread.0) o h in
-    (((told_run version es s r).lives e.thread.0).forked o first.1 may.live, λ had. true≢false (sym ((runs_are_seen (behind [] es) 0 e.thread.0).1 had) ∙ first.0))
+    (((reported_run version es s r).lives e.thread.0).forked o first.1 may.live, λ had. true≢false (sym ((runs_are_seen (extended [] es) 0 e.thread.0).1 had) ∙ first.0))

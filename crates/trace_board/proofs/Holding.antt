@@ -9,13 +9,13 @@ use Rattle.larch_actions.specs.declared.event.Action.{Action}
 use Rattle.larch_actions.specs.declared.event.Action.TheVariants.{Acquire, Release, Enqueue, Resume, AlertEnqueue, AlertReturn, AlertRaise, Signal, Broadcast, P, V, Alert, TestAlert, AlertPReturn, AlertPRaise, Fork, End, Join}
 use Rattle.larch_actions.specs.Actions.{Spec, acted, Leads, at_first}
 use Rattle.trace_board.specs.declared.history.Origin.{Origin}
-use Rattle.trace_board.specs.declared.history.Effect.{Effect}
-use Rattle.trace_board.specs.declared.history.Effect.TheVariants.{Begins, Ends, Stays}
+use Rattle.trace_board.specs.declared.history.Change.{Change}
+use Rattle.trace_board.specs.declared.history.Change.TheVariants.{Begins, Ends, Stays}
 use Rattle.trace_board.specs.History.{changed, origin_of}
 use Rattle.trace_board.specs.Marks.{marks, marks_of}
 use Rattle.trace_board.specs.declared.rows.Bar.{Bar}
 use Rattle.trace_board.specs.declared.rows.Bar.TheVariants.{Mutex, Semaphore}
-use Rattle.trace_board.specs.Kept.{kept_since, behind}
+use Rattle.trace_board.specs.Tracked.{tracked_since, extended}
 use Rattle.trace_board.specs.Laws.{number_of, turn_of, IsLeft, IsSince, BarsAreHolds, BarsAreTakings}
 
 -- what the past says of a mutex is what the state says
@@ -51,11 +51,11 @@ agrees_after o f s (Fork t) m h = h
 agrees_after o f s End m h = h
 agrees_after o f s (Join t) m h = h
 
-agrees_run : (past es : List Event) (s t : Spec) (m : ℕ) → Leads s es t → Agrees ((kept_since past).held m) (s.holder m) → Agrees ((kept_since (behind past es)).held m) (t.holder m)
-agrees_run past [] s t m r h = subst (λ (u : Spec). Agrees ((kept_since past).held m) (u.holder m)) r h
+agrees_run : (past es : List Event) (s t : Spec) (m : ℕ) → Leads s es t → Agrees ((tracked_since past).held m) (s.holder m) → Agrees ((tracked_since (extended past es)).held m) (t.holder m)
+agrees_run past [] s t m r h = subst (λ (u : Spec). Agrees ((tracked_since past).held m) (u.holder m)) r h
 agrees_run past (e ∷ es) s t m r h =
-    let step = agrees_after (origin_of (length past) e) ((kept_since past).held) s e.action m h in
-    agrees_run (e ∷ past) es r.0 t m r.2 (subst (λ (u : Spec). Agrees ((kept_since (e ∷ past)).held m) (u.holder m)) (sym r.1.1) step)
+    let step = agrees_after (origin_of (length past) e) ((tracked_since past).held) s e.action m h in
+    agrees_run (e ∷ past) es r.0 t m r.2 (subst (λ (u : Spec). Agrees ((tracked_since (e ∷ past)).held m) (u.holder m)) (sym r.1.1) step)
 
 -- what the past says of a semaphore is what the state says
 abbrev AgreesOn : Option Origin → Bool → Type 0
@@ -90,11 +90,11 @@ taken_after o f s (Fork t) n h = h
 taken_after o f s End n h = h
 taken_after o f s (Join t) n h = h
 
-taken_run : (past es : List Event) (s t : Spec) (n : ℕ) → Leads s es t → AgreesOn ((kept_since past).taken n) (s.avail n) → AgreesOn ((kept_since (behind past es)).taken n) (t.avail n)
-taken_run past [] s t n r h = subst (λ (u : Spec). AgreesOn ((kept_since past).taken n) (u.avail n)) r h
+taken_run : (past es : List Event) (s t : Spec) (n : ℕ) → Leads s es t → AgreesOn ((tracked_since past).taken n) (s.avail n) → AgreesOn ((tracked_since (extended past es)).taken n) (t.avail n)
+taken_run past [] s t n r h = subst (λ (u : Spec). AgreesOn ((tracked_since past).taken n) (u.avail n)) r h
 taken_run past (e ∷ es) s t n r h =
-    let step = taken_after (origin_of (length past) e) ((kept_since past).taken) s e.action n h in
-    taken_run (e ∷ past) es r.0 t n r.2 (subst (λ (u : Spec). AgreesOn ((kept_since (e ∷ past)).taken n) (u.avail n)) (sym r.1.1) step)
+    let step = taken_after (origin_of (length past) e) ((tracked_since past).taken) s e.action n h in
+    taken_run (e ∷ past) es r.0 t n r.2 (subst (λ (u : Spec). AgreesOn ((tracked_since (e ∷ past)).taken n) (u.avail n)) (sym r.1.1) step)
 
 -- the latest event that took it, and none since that took it or gave it back
 abbrev pub Since : Bar → List Event → Option Origin → Type 0
@@ -142,7 +142,7 @@ since_ends b k e past x t h = dite (ℕ_discrete (number_of b) k)
     begins_no : (m k : ℕ) → Begins m ≡ Ends k → ⊥
     begins_no m k u = cc
 
-since_turn : (b : Bar) (e : Event) (past : List Event) (f : ℕ → Option Origin) (t : Effect) → turn_of b e ≡ t → Since b past (f (number_of b)) → Since b (e ∷ past) (changed t (origin_of (length past) e) f (number_of b))
+since_turn : (b : Bar) (e : Event) (past : List Event) (f : ℕ → Option Origin) (t : Change) → turn_of b e ≡ t → Since b past (f (number_of b)) → Since b (e ∷ past) (changed t (origin_of (length past) e) f (number_of b))
 since_turn b e past f (Begins k) t h = since_begins b k e past (f (number_of b)) t h
 since_turn b e past f (Ends k) t h = since_ends b k e past (f (number_of b)) t h
 since_turn b e past f Stays t h = stays b e past (f (number_of b)) (λ u. begins_no (number_of b) (sym u ∙ t), λ u. ends_no (number_of b) (sym u ∙ t)) h
@@ -153,13 +153,13 @@ since_turn b e past f Stays t h = stays b e past (f (number_of b)) (λ u. begins
     ends_no : (m : ℕ) → Ends m ≡ Stays → ⊥
     ends_no m u = cc
 
-pub held_past : (m : ℕ) (past : List Event) → Since (Mutex m) past ((kept_since past).held m)
+pub held_past : (m : ℕ) (past : List Event) → Since (Mutex m) past ((tracked_since past).held m)
 held_past m [] = tt
-held_past m (e ∷ past) = since_turn (Mutex m) e past (kept_since past).held (marks e).mutex refl (held_past m past)
+held_past m (e ∷ past) = since_turn (Mutex m) e past (tracked_since past).held (marks e).mutex refl (held_past m past)
 
-taken_past : (n : ℕ) (past : List Event) → Since (Semaphore n) past ((kept_since past).taken n)
+taken_past : (n : ℕ) (past : List Event) → Since (Semaphore n) past ((tracked_since past).taken n)
 taken_past n [] = tt
-taken_past n (e ∷ past) = since_turn (Semaphore n) e past (kept_since past).taken (marks e).semaphore refl (taken_past n past)
+taken_past n (e ∷ past) = since_turn (Semaphore n) e past (tracked_since past).taken (marks e).semaphore refl (taken_past n past)
 
 both : (m : ℕ) (past : List Event) (x : Option Origin) (h : Optional ℕ) → Agrees x h → Since (Mutex m) past x → MatchOption x (h ≡ none) (λ o. (h ≡ some o.thread.0) × IsSince (Mutex m) o past)
 both m past None h a s = a
@@ -170,7 +170,7 @@ both_taken n past None v a s = a
 both_taken n past (Some o) v a s = (a, s)
 
 pub bars_are_holds : BarsAreHolds
-bars_are_holds = λ version es s r m. both m (behind [] es) ((kept_since (behind [] es)).held m) (s.holder m) (agrees_run [] es (at_first version) s m r refl) (held_past m (behind [] es))
+bars_are_holds = λ version es s r m. both m (extended [] es) ((tracked_since (extended [] es)).held m) (s.holder m) (agrees_run [] es (at_first version) s m r refl) (held_past m (extended [] es))
 
 pub bars_are_takings : BarsAreTakings
-bars_are_takings = λ version es s r n. both_taken n (behind [] es) ((kept_since (behind [] es)).taken n) (s.avail n) (taken_run [] es (at_first version) s n r refl) (taken_past n (behind [] es))
+bars_are_takings = λ version es s r n. both_taken n (extended [] es) ((tracked_since (extended [] es)).taken n) (s.avail n) (taken_run [] es (at_first version) s n r refl) (taken_past n (extended [] es))

@@ -4,14 +4,14 @@ use Rattle.std.specs.declared.option.Option.{Option}
 use Rattle.std.proofs.lemmas.Bool.{cond_both, eqb-true}
 use Rattle.larch_actions.specs.declared.event.Event.{Event}
 use Rattle.trace_board.specs.declared.history.Origin.{Origin}
-use Rattle.trace_board.specs.declared.history.Effect.{Effect}
-use Rattle.trace_board.specs.declared.history.Effect.TheVariants.{Begins, Ends, Stays}
+use Rattle.trace_board.specs.declared.history.Change.{Change}
+use Rattle.trace_board.specs.declared.history.Change.TheVariants.{Begins, Ends, Stays}
 use Rattle.trace_board.specs.declared.rows.Bar.{Bar}
 use Rattle.trace_board.specs.declared.rows.Bar.TheVariants.{Mutex, Semaphore}
 use Rattle.trace_board.specs.declared.rows.Row.{Row}
 use Rattle.trace_board.specs.Marks.{marks}
 use Rattle.trace_board.specs.Rows.{row_with, same_bar, beside, with_bar, let_go, without_bar, has, lane_in, begun_in, ended_in, turned, left, turned_by_semaphore}
-use Rattle.trace_board.specs.Kept.{Kept, kept_after}
+use Rattle.trace_board.specs.Tracked.{Tracked, tracked_after}
 use Rattle.trace_board.specs.Laws.{IsLeft, LanesAreOwn}
 
 same-true : (x y : Bar) → same_bar x y ≡ true → x ≡ y
@@ -76,12 +76,12 @@ module _ (x b : Bar) (ne : x ≢ b) (t : ℕ) (f : ℕ → Row) (u : ℕ) where
       (λ e. refl)
 
 -- an effect that isn't of the bar
-abbrev IsOther : Bar → Effect → (ℕ → Bar) → Type 0
+abbrev IsOther : Bar → Change → (ℕ → Bar) → Type 0
 IsOther b (Begins k) of = of k ≢ b
 IsOther b (Ends k) of = of k ≢ b
 IsOther b Stays of = Unit {0}
 
-lane_turned : (effect : Effect) (t : ℕ) (f : ℕ → Row) (b : Bar) (u : ℕ) → IsOther b effect Mutex → lane_in (turned effect t f u) b ≡ lane_in (f u) b
+lane_turned : (effect : Change) (t : ℕ) (f : ℕ → Row) (b : Bar) (u : ℕ) → IsOther b effect Mutex → lane_in (turned effect t f u) b ≡ lane_in (f u) b
 lane_turned (Begins k) t f b u ne = lane_begun (Mutex k) b ne t f u
 lane_turned (Ends k) t f b u ne = lane_ended (Mutex k) b ne t f u
 lane_turned Stays t f b u ne = refl
@@ -90,12 +90,12 @@ lane_left : (s : ℕ) (since : Option Origin) (f : ℕ → Row) (b : Bar) (u : �
 lane_left s None f b u ne = refl
 lane_left s (Some o) f b u ne = lane_ended (Semaphore s) b ne o.thread.0 f u
 
-lane_by_semaphore : (effect : Effect) (t : ℕ) (taken : ℕ → Option Origin) (f : ℕ → Row) (b : Bar) (u : ℕ) → IsOther b effect Semaphore → lane_in (turned_by_semaphore effect t taken f u) b ≡ lane_in (f u) b
+lane_by_semaphore : (effect : Change) (t : ℕ) (taken : ℕ → Option Origin) (f : ℕ → Row) (b : Bar) (u : ℕ) → IsOther b effect Semaphore → lane_in (turned_by_semaphore effect t taken f u) b ≡ lane_in (f u) b
 lane_by_semaphore (Begins k) t taken f b u ne = lane_begun (Semaphore k) b ne t f u
 lane_by_semaphore (Ends k) t taken f b u ne = lane_left k (taken k) f b u ne
 lane_by_semaphore Stays t taken f b u ne = refl
 
-other_mutex : (b : Bar) (e : Event) (effect : Effect) → (marks e).mutex ≡ effect → IsLeft b e → IsOther b effect Mutex
+other_mutex : (b : Bar) (e : Event) (effect : Change) → (marks e).mutex ≡ effect → IsLeft b e → IsOther b effect Mutex
 other_mutex (Mutex m) e (Begins k) is l = λ same. l.0 (is ∙ ap Begins (at k m same))
   where
     at : (k m : ℕ) → Mutex k ≡ Mutex m → k ≡ m
@@ -109,7 +109,7 @@ other_mutex (Semaphore s) e (Begins k) is l = λ same. let bad : Mutex k ≡ Sem
 other_mutex (Semaphore s) e (Ends k) is l = λ same. let bad : Mutex k ≡ Semaphore s = same in cc
 other_mutex (Semaphore s) e Stays is l = tt
 
-other_semaphore : (b : Bar) (e : Event) (effect : Effect) → (marks e).semaphore ≡ effect → IsLeft b e → IsOther b effect Semaphore
+other_semaphore : (b : Bar) (e : Event) (effect : Change) → (marks e).semaphore ≡ effect → IsLeft b e → IsOther b effect Semaphore
 other_semaphore (Semaphore m) e (Begins k) is l = λ same. l.0 (is ∙ ap Begins (at k m same))
   where
     at : (k m : ℕ) → Semaphore k ≡ Semaphore m → k ≡ m
@@ -123,7 +123,7 @@ other_semaphore (Mutex s) e (Begins k) is l = λ same. let bad : Semaphore k ≡
 other_semaphore (Mutex s) e (Ends k) is l = λ same. let bad : Semaphore k ≡ Mutex s = same in cc
 other_semaphore (Mutex s) e Stays is l = tt
 
-lane_stays : (n : ℕ) (e : Event) (k : Kept) (b : Bar) (u : ℕ) → IsLeft b e → lane_in ((kept_after n e k).rows u) b ≡ lane_in (k.rows u) b
+lane_stays : (n : ℕ) (e : Event) (k : Tracked) (b : Bar) (u : ℕ) → IsLeft b e → lane_in ((tracked_after n e k).rows u) b ≡ lane_in (k.rows u) b
 lane_stays n e k b u l =
     lane_by_semaphore (marks e).semaphore e.thread.0 k.taken (turned (marks e).mutex e.thread.0 k.rows) b u (other_semaphore b e (marks e).semaphore refl l)
     ∙ lane_turned (marks e).mutex e.thread.0 k.rows b u (other_mutex b e (marks e).mutex refl l)

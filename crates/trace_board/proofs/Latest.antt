@@ -8,7 +8,7 @@ use Rattle.std.proofs.lemmas.Bool.Decides.{nat_tests}
 use Rattle.larch_actions.specs.declared.event.Event.{Event}
 use Rattle.trace_board.specs.declared.history.Origin.{Origin}
 use Rattle.trace_board.specs.History.{origin_of}
-use Rattle.trace_board.specs.Kept.{kept_since, is_from}
+use Rattle.trace_board.specs.Tracked.{tracked_since, is_from}
 use Rattle.trace_board.specs.Laws.{HasEvent, RunsAreSeen}
 
 -- the event is the latest of the thread, or it had none
@@ -22,7 +22,7 @@ head_same x y xs ys e = cc
 tail_same : (x y : Event) (xs ys : List Event) → x ∷ xs ≡ y ∷ ys → xs ≡ ys
 tail_same x y xs ys e = cc
 
--- an event more behind it
+-- an event more after it
 event_on : (t start : ℕ) (e : Event) (past : List Event) → HasEvent t start past → HasEvent t start (e ∷ past)
 event_on t start e past h = record { later = e ∷ h.later; event = h.event; earlier = h.earlier; split = ap (λ l. e ∷ l) h.split; by = h.by; from = h.from }
 
@@ -44,11 +44,11 @@ stays : (t : ℕ) (e : Event) (past : List Event) (x : Option Origin) → t ≢ 
 stays t e past None ne l = λ start h. l start (event_before t start e past ne h)
 stays t e past (Some o) ne l = (event_on t o.place e past l.0, λ start h. l.1 start (event_before t start e past ne h))
 
-latest : (t : ℕ) (past : List Event) → Latest t past ((kept_since past).latest t)
+latest : (t : ℕ) (past : List Event) → Latest t past ((tracked_since past).latest t)
 latest t [] = λ start h. let counted = ap length h.split ∙ length-append h.later (h.event ∷ h.earlier) in absurd (omega (arith, counted))
 latest t (e ∷ past) = dite (ℕ_discrete t e.thread.0)
-    (λ same. subst (λ b. Latest t (e ∷ past) (cond b (Some (origin_of (length past) e)) ((kept_since past).latest t))) (sym (eq-eqb t e.thread.0 same)) (event_now t e past same))
-    (λ ne. subst (λ b. Latest t (e ∷ past) (cond b (Some (origin_of (length past) e)) ((kept_since past).latest t))) (sym (ne_eqb t e.thread.0 ne)) (stays t e past ((kept_since past).latest t) ne (latest t past)))
+    (λ same. subst (λ b. Latest t (e ∷ past) (cond b (Some (origin_of (length past) e)) ((tracked_since past).latest t))) (sym (eq-eqb t e.thread.0 same)) (event_now t e past same))
+    (λ ne. subst (λ b. Latest t (e ∷ past) (cond b (Some (origin_of (length past) e)) ((tracked_since past).latest t))) (sym (ne_eqb t e.thread.0 ne)) (stays t e past ((tracked_since past).latest t) ne (latest t past)))
 
 is_le : (i k : ℕ) → nat_le i k ≡ true → i ≤ k
 is_le i k e = grind (arith, nat_tests)
@@ -60,9 +60,9 @@ seen : (t start : ℕ) (past : List Event) (x : Option Origin) → Latest t past
 seen t start past None l e = let bad : false ≡ true = e in cc
 seen t start past (Some o) l e = let le = is_le start o.place e in record { later = l.0.later; event = l.0.event; earlier = l.0.earlier; split = l.0.split; by = l.0.by; from = omega (arith, l.0.from, le) }
 
-told : (t start : ℕ) (past : List Event) (x : Option Origin) → Latest t past x → HasEvent t start past → is_from start x ≡ true
-told t start past None l h = absurd (l start h)
-told t start past (Some o) l h = le_is start o.place (l.1 start h)
+reported : (t start : ℕ) (past : List Event) (x : Option Origin) → Latest t past x → HasEvent t start past → is_from start x ≡ true
+reported t start past None l h = absurd (l start h)
+reported t start past (Some o) l h = le_is start o.place (l.1 start h)
 
 pub runs_are_seen : RunsAreSeen
-runs_are_seen = λ past start t. (seen t start past ((kept_since past).latest t) (latest t past), told t start past ((kept_since past).latest t) (latest t past))
+runs_are_seen = λ past start t. (seen t start past ((tracked_since past).latest t) (latest t past), reported t start past ((tracked_since past).latest t) (latest t past))

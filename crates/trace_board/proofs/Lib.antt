@@ -1,5 +1,5 @@
 pub mod Agreeing
-pub mod Behind
+pub mod Extended
 pub mod Causing
 pub mod Freeing
 pub mod Holding

@@ -13,7 +13,7 @@ use Rattle.larch_actions.specs.Actions.{Spec, acted, MayAct, MeetsRequires, IsRu
 use Rattle.trace_board.specs.declared.history.Origin.{Origin}
 use Rattle.trace_board.specs.History.{changed, begun_by, ended_by, origin_of}
 use Rattle.trace_board.specs.Marks.{marks_of}
-use Rattle.trace_board.specs.Kept.{Kept, nothing_kept, kept_after, kept_since, life_by, life_in}
+use Rattle.trace_board.specs.Tracked.{Tracked, nothing_tracked, tracked_after, tracked_since, life_by, life_in}
 use Rattle.trace_board.specs.Laws.{is_live, is_ended, IsMadeBy}
 use Rattle.trace_board.proofs.Agreeing.{both_put}
 use Rattle.trace_board.proofs.Making.{made}
@@ -90,11 +90,11 @@ over_from t End o over x p h = at (put_some (eqb x t) o p (over x) h)
 over_from t (Join who) o over x p h = inl h
 
 -- what ends a thread is its own event
-pub over_own : (past : List Event) (x : ℕ) (o : Origin) → (kept_since past).over x ≡ Some o → o.thread.0 ≡ x
+pub over_own : (past : List Event) (x : ℕ) (o : Origin) → (tracked_since past).over x ≡ Some o → o.thread.0 ≡ x
 over_own [] x o h = absurd (let bad : None ≡ Some o = h in cc)
-over_own (e ∷ past) x o h = at (over_own past x o) (over_from e.thread.0 e.action (origin_of (length past) e) (kept_since past).over x o h)
+over_own (e ∷ past) x o h = at (over_own past x o) (over_from e.thread.0 e.action (origin_of (length past) e) (tracked_since past).over x o h)
   where
-    at : ((kept_since past).over x ≡ Some o → o.thread.0 ≡ x) → ((kept_since past).over x ≡ Some o) ⊎ ((o ≡ origin_of (length past) e) × (x ≡ e.thread.0)) → o.thread.0 ≡ x
+    at : ((tracked_since past).over x ≡ Some o → o.thread.0 ≡ x) → ((tracked_since past).over x ≡ Some o) ⊎ ((o ≡ origin_of (length past) e) × (x ≡ e.thread.0)) → o.thread.0 ≡ x
     at before (inl i) = before i
     at before (inr i) = ap (λ (p : Origin). p.thread.0) i.0 ∙ sym i.1
 
@@ -107,7 +107,7 @@ first_not_ended Two x e = at (eqb x 0) e
     at false h = let bad : Unborn ≡ Ended = h in cc
 
 -- of a thread that has ended the event is kept that ended it
-pub over_some : (version : Version) (k : Kept) (x : ℕ) → life_in version k x ≡ Ended → (o : Origin) × (k.over x ≡ Some o)
+pub over_some : (version : Version) (k : Tracked) (x : ℕ) → life_in version k x ≡ Ended → (o : Origin) × (k.over x ≡ Some o)
 over_some version k x h = at (k.born x) (k.over x) h
   where
     at : (b c : Option Origin) → life_by (lives_at_first version x) b c ≡ Ended → (o : Origin) × (c ≡ Some o)
@@ -167,18 +167,18 @@ live_from t End s x may h = live_put (eqb x t) Ended (s.life x) ((s.life x ≡ L
 live_from t (Join who) s x may h = inl h
 
 -- what is kept of the life of x tells of the state, and which events made it live and end
-pub record IsLife (version : Version) (k : Kept) (es : List Event) (s : Spec) (x : ℕ) : Type 0 where
+pub record IsLife (version : Version) (k : Tracked) (es : List Event) (s : Spec) (x : ℕ) : Type 0 where
   pub is : s.life x ≡ life_by (lives_at_first version x) (k.born x) (k.over x)
   pub ended : (o : Origin) → k.over x ≡ Some o → IsMadeBy version (λ z. is_ended (z.life x)) es s o
   pub forked : (o : Origin) → k.born x ≡ Some o → s.life x ≡ Live → IsMadeBy version (λ z. is_live (z.life x)) es s o
 
-pub life_first : (version : Version) (x : ℕ) → IsLife version nothing_kept [] (at_first version) x
+pub life_first : (version : Version) (x : ℕ) → IsLife version nothing_tracked [] (at_first version) x
 life_first version x = record { is = refl; ended = λ o h. absurd (none_not o h); forked = λ o h l. absurd (none_not o h) }
   where
     none_not : (o : Origin) → None ≡ Some o → ⊥
     none_not o e = cc
 
-module _ (version : Version) (k : Kept) (es : List Event) (s : Spec) (e : Event) (r : IsRun version es s) (may : MayAct s e) (x : ℕ) (told : IsLife version k es s x) where
+module _ (version : Version) (k : Tracked) (es : List Event) (s : Spec) (e : Event) (r : IsRun version es s) (may : MayAct s e) (x : ℕ) (reported : IsLife version k es s x) where
   abbrev t : ℕ
   t = e.thread.0
 
@@ -188,20 +188,20 @@ module _ (version : Version) (k : Kept) (es : List Event) (s : Spec) (e : Event)
   abbrev next : Spec
   next = acted e.thread.0 s e.action
 
-  abbrev later : Kept
-  later = kept_after (length es) e k
+  abbrev later : Tracked
+  later = tracked_after (length es) e k
 
   abbrev first : Life
   first = lives_at_first version x
 
   is : next.life x ≡ life_by first (later.born x) (later.over x)
-  is = life_after t e.action o k.born k.over s first x may.requires_met told.is
+  is = life_after t e.action o k.born k.over s first x may.requires_met reported.is
 
   ended : (p : Origin) → later.over x ≡ Some p → IsMadeBy version (λ z. is_ended (z.life x)) (es ++ e ∷ []) next p
   ended p h = made version (λ z. is_ended (z.life x)) es s e next (may, refl) (ap is_ended (is ∙ ap (life_by first (later.born x)) h ∙ sym (ended_is first (later.born x) p))) p r (was (over_from t e.action o k.over x p h))
     where
       was : (k.over x ≡ Some p) ⊎ ((p ≡ o) × (x ≡ t)) → (IsMadeBy version (λ z. is_ended (z.life x)) es s p) ⊎ ((p ≡ o) × (is_ended (s.life x) ≡ false))
-      was (inl h) = inl (told.ended p h)
+      was (inl h) = inl (reported.ended p h)
       was (inr (same, own)) = inr (same, ap is_ended (ap s.life own ∙ may.live))
 
   forked : (p : Origin) → later.born x ≡ Some p → next.life x ≡ Live → IsMadeBy version (λ z. is_live (z.life x)) (es ++ e ∷ []) next p
@@ -209,10 +209,10 @@ module _ (version : Version) (k : Kept) (es : List Event) (s : Spec) (e : Event)
     where
       lived : k.born x ≡ Some p → (s.life x ≡ Live) ⊎ (s.life x ≡ Unborn) → s.life x ≡ Live
       lived h (inl l) = l
-      lived h (inr u) = absurd (born_not first p (k.over x) (ap (λ b. life_by first b (k.over x)) (sym h) ∙ sym told.is ∙ u))
+      lived h (inr u) = absurd (born_not first p (k.over x) (ap (λ b. life_by first b (k.over x)) (sym h) ∙ sym reported.is ∙ u))
 
       was : (k.born x ≡ Some p) ⊎ ((p ≡ o) × (s.life x ≡ Unborn)) → (IsMadeBy version (λ z. is_live (z.life x)) es s p) ⊎ ((p ≡ o) × (is_live (s.life x) ≡ false))
-      was (inl h) = inl (told.forked p h (lived h (live_from t e.action s x may.requires_met live)))
+      was (inl h) = inl (reported.forked p h (lived h (live_from t e.action s x may.requires_met live)))
       was (inr (same, unborn)) = inr (same, ap is_live unborn)
 
   pub life_on : IsLife version later (es ++ e ∷ []) next x

@@ -6,14 +6,14 @@ use Rattle.larch_actions.specs.declared.event.Action.{Action}
 use Rattle.larch_actions.specs.declared.event.Action.TheVariants.{Acquire, Release, Enqueue, Resume, AlertEnqueue, AlertReturn, AlertRaise, Signal, Broadcast, P, V, Alert, TestAlert, AlertPReturn, AlertPRaise, Fork, End, Join}
 use Rattle.larch_actions.specs.Layout.{IsLawful, HasNames, IsNamed, most_threads}
 use Rattle.larch_actions.proofs.Names.{few_threads}
-use Rattle.trace_board.specs.declared.marks.Marks.{Marks}
+use Rattle.trace_board.specs.declared.marks.Effects.{Effects}
 use Rattle.trace_board.specs.Marks.{marks_of}
 use Rattle.trace_board.specs.History.{IsWithin}
 use Rattle.trace_board.specs.Causes.{IsSmall}
-use Rattle.trace_board.specs.Kept.{IsNear, IsNoted}
+use Rattle.trace_board.specs.Tracked.{IsNear, IsNoted}
 
 -- the mutex, the semaphore, the wait, the life, the condition, the alert and what it goes on by have small numbers
-abbrev AreSmall : Marks → Type 0
+abbrev AreSmall : Effects → Type 0
 AreSmall m = IsWithin m.mutex × IsWithin m.semaphore × IsWithin m.wait × IsWithin m.life × IsSmall m.stand × IsSmall m.avail × IsSmall m.alert × IsNear m.waker
 
 module _ (l : Layout) (w : IsLawful l) (t : ℕ) (h : t < l.threads) where

@@ -7,8 +7,8 @@ use Rattle.larch_actions.specs.State.{shown_at}
 use Rattle.trace_board.specs.declared.history.Origin.{Origin}
 use Rattle.trace_board.specs.declared.causes.Cause.{Cause}
 use Rattle.trace_board.specs.declared.causes.Cause.TheVariants.{Never, Awaited, By}
-use Rattle.trace_board.specs.declared.causes.Move.{Move}
-use Rattle.trace_board.specs.declared.causes.Move.TheVariants.{Awaits, Ends, Frees, Opens, Comes, Stays}
+use Rattle.trace_board.specs.declared.causes.CauseChange.{CauseChange}
+use Rattle.trace_board.specs.declared.causes.CauseChange.TheVariants.{Awaits, Ends, Frees, Opens, Comes, Stays}
 use Rattle.trace_board.specs.declared.causes.Causes.{Causes}
 
 -- what a Signal or a Broadcast of c, which leaves the thread there or not, makes of it: who stood in c and isn't left was taken out by this event
@@ -30,7 +30,7 @@ come o (Awaited k) = By o
 come o (By p) = By p
 
 -- the name in a move is that of one of as many things as there may be threads
-abbrev pub IsSmall : Move → Type 0
+abbrev pub IsSmall : CauseChange → Type 0
 IsSmall (Awaits k c) = k < most_threads
 IsSmall (Ends k) = k < most_threads
 IsSmall (Frees c left) = Unit {0}
@@ -39,7 +39,7 @@ IsSmall (Comes k) = k < most_threads
 IsSmall Stays = Unit {0}
 
 -- what a move changes, by this event
-abbrev pub moved : Move → Origin → (ℕ → Cause) → ℕ → Cause
+abbrev pub moved : CauseChange → Origin → (ℕ → Cause) → ℕ → Cause
 moved (Awaits k c) o f = put f k (Awaited c)
 moved (Ends k) o f = put f k Never
 moved (Frees c left) o f = λ t. taken c (in_set left t) o (f t)

@@ -6,29 +6,29 @@ use Rattle.larch_actions.specs.Layout.{most_threads}
 use Rattle.larch_actions.specs.Actions.{put}
 use Rattle.larch_actions.specs.State.{shown_at}
 use Rattle.trace_board.specs.declared.history.Origin.{Origin}
-use Rattle.trace_board.specs.declared.history.Effect.{Effect}
-use Rattle.trace_board.specs.declared.history.Effect.TheVariants.{Begins, Ends, Stays}
+use Rattle.trace_board.specs.declared.history.Change.{Change}
+use Rattle.trace_board.specs.declared.history.Change.TheVariants.{Begins, Ends, Stays}
 use Rattle.trace_board.specs.declared.history.Table.{Table}
 use Rattle.trace_board.specs.Marks.{marks}
 
 -- the name in an effect is that of one of as many things as there may be threads
-abbrev pub IsWithin : Effect → Type 0
+abbrev pub IsWithin : Change → Type 0
 IsWithin (Begins k) = k < most_threads
 IsWithin (Ends k) = k < most_threads
 IsWithin Stays = Unit {0}
 
 -- what an effect changes: since which event each thing is taken, where it is
-abbrev pub changed : Effect → Origin → (ℕ → Option Origin) → ℕ → Option Origin
+abbrev pub changed : Change → Origin → (ℕ → Option Origin) → ℕ → Option Origin
 changed (Begins k) o f = put f k (Some o)
 changed (Ends k) o f = put f k None
 changed Stays o f = f
 
 -- what begins to live, and what has ended from then on
-abbrev pub begun_by : Effect → Effect
+abbrev pub begun_by : Change → Change
 begun_by (Begins k) = Begins k
 begun_by _ = Stays
 
-abbrev pub ended_by : Effect → Effect
+abbrev pub ended_by : Change → Change
 ended_by (Ends k) = Begins k
 ended_by _ = Stays
 

@@ -4,8 +4,8 @@ use Rattle.std.specs.declared.option.Option.{Option}
 use Rattle.larch_actions.specs.Actions.{put}
 use Rattle.larch_actions.specs.State.{shown_at}
 use Rattle.trace_board.specs.declared.history.Origin.{Origin}
-use Rattle.trace_board.specs.declared.history.Effect.{Effect}
-use Rattle.trace_board.specs.declared.history.Effect.TheVariants.{Begins, Ends, Stays}
+use Rattle.trace_board.specs.declared.history.Change.{Change}
+use Rattle.trace_board.specs.declared.history.Change.TheVariants.{Begins, Ends, Stays}
 use Rattle.trace_board.specs.declared.holds.Hold.{Hold}
 use Rattle.trace_board.specs.declared.holds.Longest.{Longest}
 
@@ -25,7 +25,7 @@ longer (Some a) None = Some a
 longer (Some a) (Some b) = if nat_lt (held_for a) (held_for b) then Some b else Some a
 
 -- what the effect on a mutex by the event n makes of the longest holds that were given back
-abbrev pub lengthened : Effect → ℕ → (ℕ → Option Origin) → (ℕ → Option Hold) → ℕ → Option Hold
+abbrev pub lengthened : Change → ℕ → (ℕ → Option Origin) → (ℕ → Option Hold) → ℕ → Option Hold
 lengthened (Begins m) n held f = f
 lengthened (Ends m) n held f = put f m (longer (f m) (hold_to true n (held m)))
 lengthened Stays n held f = f

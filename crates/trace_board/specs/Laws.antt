@@ -10,8 +10,8 @@ use Rattle.larch_actions.specs.declared.event.Life.{Life}
 use Rattle.larch_actions.specs.declared.event.Life.TheVariants.{Live, Ended}
 use Rattle.larch_actions.specs.Actions.{Spec, IsRun, Leads, Acts, MayAct, acted}
 use Rattle.trace_board.specs.declared.history.Origin.{Origin}
-use Rattle.trace_board.specs.declared.history.Effect.{Effect}
-use Rattle.trace_board.specs.declared.history.Effect.TheVariants.{Begins, Ends}
+use Rattle.trace_board.specs.declared.history.Change.{Change}
+use Rattle.trace_board.specs.declared.history.Change.TheVariants.{Begins, Ends}
 use Rattle.trace_board.specs.declared.holds.Hold.{Hold}
 use Rattle.trace_board.specs.declared.rows.Bar.{Bar}
 use Rattle.trace_board.specs.declared.rows.Bar.TheVariants.{Mutex, Semaphore}
@@ -20,14 +20,14 @@ use Rattle.trace_board.specs.Marks.{marks}
 use Rattle.trace_board.specs.History.{origin_of}
 use Rattle.trace_board.specs.Rows.{lane_in}
 use Rattle.trace_board.specs.Holds.{held_for}
-use Rattle.trace_board.specs.Kept.{Kept, kept_after, kept_since, behind, let_on_by, longest_in, has_run, forked_by, life_in}
+use Rattle.trace_board.specs.Tracked.{Tracked, tracked_after, tracked_since, extended, let_on_by, longest_in, has_run, forked_by, life_in}
 
 -- the number of what a bar is of, and whether an event takes it or gives it back
 abbrev pub number_of : Bar → ℕ
 number_of (Mutex m) = m
 number_of (Semaphore s) = s
 
-abbrev pub turn_of : Bar → Event → Effect
+abbrev pub turn_of : Bar → Event → Change
 turn_of (Mutex m) e = (marks e).mutex
 turn_of (Semaphore s) e = (marks e).semaphore
 
@@ -50,22 +50,22 @@ pub record IsSince (b : Bar) (o : Origin) (past : List Event) : Type 0 where
 abbrev pub BarsAreHolds : Type 0
 BarsAreHolds =
     (version : Version) (es : List Event) (s : Spec) → IsRun version es s → (m : ℕ)
-    → MatchOption ((kept_since (behind [] es)).held m) (s.holder m ≡ none)
-    (λ o. (s.holder m ≡ some o.thread.0) × IsSince (Mutex m) o (behind [] es))
+    → MatchOption ((tracked_since (extended [] es)).held m) (s.holder m ≡ none)
+    (λ o. (s.holder m ≡ some o.thread.0) × IsSince (Mutex m) o (extended [] es))
 
 -- After each run a semaphore isn't available exactly where a bar of it is under way, and this bar goes from the event that took the semaphore, in the
 -- row of the thread that did so, since when no event took it or made it available.
 abbrev pub BarsAreTakings : Type 0
 BarsAreTakings =
     (version : Version) (es : List Event) (s : Spec) → IsRun version es s → (n : ℕ)
-    → MatchOption ((kept_since (behind [] es)).taken n) (s.avail n ≡ true)
-    (λ o. (s.avail n ≡ false) × IsSince (Semaphore n) o (behind [] es))
+    → MatchOption ((tracked_since (extended [] es)).taken n) (s.avail n ≡ true)
+    (λ o. (s.avail n ≡ false) × IsSince (Semaphore n) o (extended [] es))
 
 -- Two bars have one lane of a row only where that is the last, and a bar keeps its lane while others begin and end.
 abbrev pub LanesAreOwn : Type 0
 LanesAreOwn =
     ((r : Row) (a b : Bar) → a ≢ b → lane_in r a ≡ lane_in r b → lane_in r a ≡ 3)
-    × ((n : ℕ) (e : Event) (k : Kept) (b : Bar) (u : ℕ) → IsLeft b e → lane_in ((kept_after n e k).rows u) b ≡ lane_in (k.rows u) b)
+    × ((n : ℕ) (e : Event) (k : Tracked) (b : Bar) (u : ℕ) → IsLeft b e → lane_in ((tracked_after n e k).rows u) b ≡ lane_in (k.rows u) b)
 
 -- a hold of the mutex m that an event gave back: the last of it
 pub record IsGivenBack (m : ℕ) (h : Hold) (past : List Event) : Type 0 where
@@ -84,7 +84,7 @@ IsHold n m h past = ((h.ended ≡ true) × IsGivenBack m h past) ⊎ ((h.ended �
 -- What is shown as the longest hold of a mutex is one of its holds, and none is longer; where nothing is shown there is none.
 abbrev pub HoldsAreLongest : Type 0
 HoldsAreLongest =
-    (past : List Event) (n m : ℕ) → MatchOption (longest_in (kept_since past) n m) ((h : Hold) → IsHold n m h past → ⊥)
+    (past : List Event) (n m : ℕ) → MatchOption (longest_in (tracked_since past) n m) ((h : Hold) → IsHold n m h past → ⊥)
     (λ h. IsHold n m h past × ((j : Hold) → IsHold n m j past → held_for j ≤ held_for h))
 
 -- an event of the thread t, from the event `start` on
@@ -99,15 +99,15 @@ pub record HasEvent (t start : ℕ) (past : List Event) : Type 0 where
 -- A thread is shown to have run since an event exactly where one of the events from that one on is its own.
 abbrev pub RunsAreSeen : Type 0
 RunsAreSeen =
-    (past : List Event) (start t : ℕ) → (has_run (kept_since past) start t ≡ true → HasEvent t start past)
-    × (HasEvent t start past → has_run (kept_since past) start t ≡ true)
+    (past : List Event) (start t : ℕ) → (has_run (tracked_since past) start t ≡ true → HasEvent t start past)
+    × (HasEvent t start past → has_run (tracked_since past) start t ≡ true)
 
 -- After each run a thread is unborn, lives or has ended as the picture has its row: none yet, one from its fork on where one is kept, and up to the event
 -- that is kept as its end.
 abbrev pub RowsAreLives : Type 0
 RowsAreLives =
     (version : Version) (es : List Event) (s : Spec) → IsRun version es s → (t : ℕ)
-    → s.life t ≡ life_in version (kept_since (behind [] es)) t
+    → s.life t ≡ life_in version (tracked_since (extended [] es)) t
 
 abbrev pub is_live : Life → Bool
 is_live Live = true
@@ -154,7 +154,7 @@ pub record IsMadeBy (version : Version) (test : Spec → Bool) (es : List Event)
 abbrev pub ArrowsAreCauses : Type 0
 ArrowsAreCauses =
     (version : Version) (es : List Event) (s : Spec) → IsRun version es s → (e : Event) → MayAct s e → (o : Origin)
-    → let_on_by (kept_since (behind [] es)) (marks e).waker ≡ Some o
+    → let_on_by (tracked_since (extended [] es)) (marks e).waker ≡ Some o
     → IsMadeBy version (awaited_by e.thread.0 e.action) es s o
 
 -- Where an event may follow a run, the picture has its thread begin to go on by an event of the run only where it is its thread's first, and that event made
@@ -162,5 +162,5 @@ ArrowsAreCauses =
 abbrev pub ForksAreBirths : Type 0
 ForksAreBirths =
     (version : Version) (es : List Event) (s : Spec) → IsRun version es s → (e : Event) → MayAct s e → (o : Origin)
-    → forked_by (kept_since (behind [] es)) e.thread.0 ≡ Some o
-    → IsMadeBy version (λ z. is_live (z.life e.thread.0)) es s o × (HasEvent e.thread.0 0 (behind [] es) → ⊥)
+    → forked_by (tracked_since (extended [] es)) e.thread.0 ≡ Some o
+    → IsMadeBy version (λ z. is_live (z.life e.thread.0)) es s o × (HasEvent e.thread.0 0 (extended [] es) → ⊥)

@@ -4,5 +4,5 @@ pub mod Awaited
 pub mod Causes
 pub mod Rows
 pub mod Holds
-pub mod Kept
+pub mod Tracked
 pub mod Laws

@@ -4,8 +4,8 @@ use Rattle.std.specs.declared.option.Option.{Option}
 use Rattle.larch_actions.specs.Actions.{put}
 use Rattle.larch_actions.specs.State.{shown_at}
 use Rattle.trace_board.specs.declared.history.Origin.{Origin}
-use Rattle.trace_board.specs.declared.history.Effect.{Effect}
-use Rattle.trace_board.specs.declared.history.Effect.TheVariants.{Begins, Ends, Stays}
+use Rattle.trace_board.specs.declared.history.Change.{Change}
+use Rattle.trace_board.specs.declared.history.Change.TheVariants.{Begins, Ends, Stays}
 use Rattle.trace_board.specs.declared.rows.Bar.{Bar}
 use Rattle.trace_board.specs.declared.rows.Bar.TheVariants.{Mutex, Semaphore}
 use Rattle.trace_board.specs.declared.rows.Row.{Row}
@@ -61,7 +61,7 @@ abbrev pub ended_in : Bar → ℕ → (ℕ → Row) → ℕ → Row
 ended_in x t f = put f t (without_bar x (f t))
 
 -- what the effect on a mutex by the thread t changes in its row
-abbrev pub turned : Effect → ℕ → (ℕ → Row) → ℕ → Row
+abbrev pub turned : Change → ℕ → (ℕ → Row) → ℕ → Row
 turned (Begins m) t f = begun_in (Mutex m) t f
 turned (Ends m) t f = ended_in (Mutex m) t f
 turned Stays t f = f
@@ -72,7 +72,7 @@ left s None f = f
 left s (Some o) f = ended_in (Semaphore s) o.thread.0 f
 
 -- what the effect on a semaphore by the thread t changes: it may have been taken by another thread
-abbrev pub turned_by_semaphore : Effect → ℕ → (ℕ → Option Origin) → (ℕ → Row) → ℕ → Row
+abbrev pub turned_by_semaphore : Change → ℕ → (ℕ → Option Origin) → (ℕ → Row) → ℕ → Row
 turned_by_semaphore (Begins s) t taken f = begun_in (Semaphore s) t f
 turned_by_semaphore (Ends s) t taken f = left s (taken s) f
 turned_by_semaphore Stays t taken f = f

@@ -2,10 +2,10 @@
 ghost use Rattle.std.specs.Prelude.{◌≡◌, ◌<◌};
 ghost use Rattle.larch_actions.specs.Actions.{lives_at_first};
 ghost use Rattle.larch_actions.specs.Layout.{most_threads};
-ghost use Rattle.trace_board.specs.Kept.{nothing_kept, kept_after, kept_of, came, let_on_by, is_from, has_run, was_held, forked_by, life_by, life_in, IsNoted, IsNear};
+ghost use Rattle.trace_board.specs.Tracked.{nothing_tracked, tracked_after, tracked_of, came, let_on_by, is_from, has_run, was_held, forked_by, life_by, life_in, IsNoted, IsNear};
 
 use crate::causes::{Cause, Causes};
-use crate::history::{Effect, Lives, Origin, Table, ended_by};
+use crate::history::{Change, Lives, Origin, Table, ended_by};
 use crate::holds::Longest;
 use crate::marks::marks_of;
 use crate::rows::Rows;
@@ -15,7 +15,7 @@ use larch_actions::{Event, Life, Version};
 /// which event last gave each mutex back, for how long each mutex was held at the longest, which is the latest event of each thread, and which forked and
 /// which ended it.
 #[derive(Drop)]
-pub struct Board {
+pub struct TraceState {
     pub held: Table,
     pub waits: Table,
     pub stands: Causes,
@@ -31,10 +31,10 @@ pub struct Board {
 
 /// What a thread goes on by: that it was taken out of its condition, that a semaphore is available, that it is alerted, or that another thread has ended.
 #[derive(Clone, Copy)]
-pub enum Waker {
+pub enum Reason {
     Condition(u32),
     Semaphore(u32),
-    Alarm(u32),
+    Alerted(u32),
     Ended(u32),
     Nobody,
 }
@@ -83,10 +83,10 @@ fn life_by(first: Life, born: Option<Origin>, over: Option<Origin>) -> Life
     }
 }
 
-impl Board {
+impl TraceState {
     /// Nothing is held, and nobody waits.
-    pub fn new() -> Board
-        ensures { kept_of result ≡ nothing_kept }
+    pub fn new() -> TraceState
+        ensures { tracked_of result ≡ nothing_tracked }
     {
         let held = Table::new();
         let waits = Table::new();
@@ -99,7 +99,7 @@ impl Board {
         let longest = Longest::new();
         let latest = Table::new();
         let lives = Lives::new();
-        Board {
+        TraceState {
             held,
             waits,
             stands,
@@ -115,23 +115,23 @@ impl Board {
     }
 
     /// The event by which a thread goes on.
-    pub fn waker(&self, waker: Waker) -> Option<Origin>
+    pub fn waker(&self, waker: Reason) -> Option<Origin>
         requires { IsNear waker }
-        ensures { result ≡ let_on_by (kept_of self.now) waker }
+        ensures { result ≡ let_on_by (tracked_of self.now) waker }
     {
         match waker {
-            Waker::Condition(t) => event_of(self.stands.at(t)),
-            Waker::Semaphore(s) => event_of(self.opens.at(s)),
-            Waker::Alarm(t) => event_of(self.alerts.at(t)),
-            Waker::Ended(t) => self.lives.over.at(t),
-            Waker::Nobody => None,
+            Reason::Condition(t) => event_of(self.stands.at(t)),
+            Reason::Semaphore(s) => event_of(self.opens.at(s)),
+            Reason::Alerted(t) => event_of(self.alerts.at(t)),
+            Reason::Ended(t) => self.lives.over.at(t),
+            Reason::Nobody => None,
         }
     }
 
     /// Whether the thread had an event from the event `start` on.
     pub fn has_run(&self, start: u64, t: u32) -> bool
         requires { t < most_threads }
-        ensures { result ≡ has_run (kept_of self.now) start t }
+        ensures { result ≡ has_run (tracked_of self.now) start t }
     {
         is_from(start, self.latest.at(t))
     }
@@ -139,7 +139,7 @@ impl Board {
     /// The event that forked the thread, where it has had no event.
     pub fn forked_by(&self, t: u32) -> Option<Origin>
         requires { t < most_threads }
-        ensures { result ≡ forked_by (kept_of self.now) t }
+        ensures { result ≡ forked_by (tracked_of self.now) t }
     {
         if self.has_run(0, t) {
             None
@@ -151,7 +151,7 @@ impl Board {
     /// Whether the thread is unborn, lives or has ended, in a trace of this version.
     pub fn life(&self, version: Version, t: u32) -> Life
         requires { t < most_threads }
-        ensures { result ≡ life_in version (kept_of self.now) t }
+        ensures { result ≡ life_in version (tracked_of self.now) t }
     {
         life_by(
             first_life(version, t),
@@ -163,7 +163,7 @@ impl Board {
     /// Whether the mutex is held, or was given back from the event `start` on.
     pub fn was_held(&self, start: u64, m: u32) -> bool
         requires { m < most_threads }
-        ensures { result ≡ was_held (kept_of self.now) start m }
+        ensures { result ≡ was_held (tracked_of self.now) start m }
     {
         match self.held.at(m) {
             Some(_) => true,
@@ -174,7 +174,7 @@ impl Board {
     /// Notes what the event takes, gives back, awaits and lets go on.
     pub fn note(&mut self, place: u64, e: &Event)
         requires { IsNoted e.now }
-        ensures { kept_of self.new ≡ kept_after place e.now (kept_of self.old) }
+        ensures { tracked_of self.new ≡ tracked_after place e.now (tracked_of self.old) }
     {
         let marks = marks_of(e.thread, &e.action);
         let by = Origin {
@@ -193,7 +193,7 @@ impl Board {
         self.alerts.note(marks.alert, by);
         self.given.note(ended_by(marks.mutex), by);
         self.taken.note(marks.semaphore, by);
-        self.latest.note(Effect::Begins(e.thread.0), by);
+        self.latest.note(Change::Begins(e.thread.0), by);
         self.lives.note(marks.life, by);
     }
 }

@@ -22,7 +22,7 @@ pub enum Cause {
 
 /// What an event does to the causes of a kind.
 #[derive(Clone, Copy)]
-pub enum Move {
+pub enum CauseChange {
     /// The first is awaited from now on, at the second.
     Awaits(u32, u32),
     /// It isn't awaited any more.
@@ -134,25 +134,25 @@ impl Causes {
 
     /// Notes the move, by this event.
     #[inline(always)]
-    pub fn note(&mut self, change: Move, by: Origin)
+    pub fn note(&mut self, change: CauseChange, by: Origin)
         requires { IsSmall change }
         ensures { cause_of self.new ≡ moved change by (cause_of self.old) }
     {
         match change {
-            Move::Awaits(k, at) => self.put(k, Cause::Awaited(at)),
-            Move::Ends(k) => self.put(k, Cause::Never),
-            Move::Frees(cond, left) => self.free(cond, &left, by),
-            Move::Opens(k) => {
+            CauseChange::Awaits(k, at) => self.put(k, Cause::Awaited(at)),
+            CauseChange::Ends(k) => self.put(k, Cause::Never),
+            CauseChange::Frees(cond, left) => self.free(cond, &left, by),
+            CauseChange::Opens(k) => {
                 let was = self.at(k);
                 let now = was.opened_by(by);
                 self.put(k, now);
             }
-            Move::Comes(k) => {
+            CauseChange::Comes(k) => {
                 let was = self.at(k);
                 let now = was.come_by(by);
                 self.put(k, now);
             }
-            Move::Stays => {}
+            CauseChange::Stays => {}
         }
     }
 }

@@ -16,7 +16,7 @@ pub struct Origin {
 
 /// What an event does to a thing of this number.
 #[derive(Clone, Copy)]
-pub enum Effect {
+pub enum Change {
     Begins(u32),
     Ends(u32),
     Stays,
@@ -24,13 +24,13 @@ pub enum Effect {
 
 /// What has ended from the effect on.
 #[inline(always)]
-pub fn ended_by(effect: Effect) -> Effect
+pub fn ended_by(effect: Change) -> Change
     ensures { result ≡ ended_by effect }
 {
     match effect {
-        Effect::Begins(_) => Effect::Stays,
-        Effect::Ends(k) => Effect::Begins(k),
-        Effect::Stays => Effect::Stays,
+        Change::Begins(_) => Change::Stays,
+        Change::Ends(k) => Change::Begins(k),
+        Change::Stays => Change::Stays,
     }
 }
 
@@ -59,14 +59,14 @@ impl Table {
     }
 
     /// Notes the effect, by this event.
-    pub fn note(&mut self, effect: Effect, by: Origin)
+    pub fn note(&mut self, effect: Change, by: Origin)
         requires { IsWithin effect }
         ensures { entry_of self.new ≡ changed effect by (entry_of self.old) }
     {
         match effect {
-            Effect::Begins(k) => self.entries[k as usize] = Some(by),
-            Effect::Ends(k) => self.entries[k as usize] = None,
-            Effect::Stays => {}
+            Change::Begins(k) => self.entries[k as usize] = Some(by),
+            Change::Ends(k) => self.entries[k as usize] = None,
+            Change::Stays => {}
         }
     }
 }
@@ -91,15 +91,15 @@ impl Lives {
 
     /// Notes the effect on a thread's life, by this event.
     #[inline(always)]
-    pub fn note(&mut self, effect: Effect, by: Origin)
+    pub fn note(&mut self, effect: Change, by: Origin)
         requires { IsWithin effect }
         ensures born { entry_of self.new.born ≡ changed (begun_by effect) by (entry_of self.old.born) }
         ensures over { entry_of self.new.over ≡ changed (ended_by effect) by (entry_of self.old.over) }
     {
         match effect {
-            Effect::Begins(k) => self.born.note(Effect::Begins(k), by),
-            Effect::Ends(k) => self.over.note(Effect::Begins(k), by),
-            Effect::Stays => {}
+            Change::Begins(k) => self.born.note(Change::Begins(k), by),
+            Change::Ends(k) => self.over.note(Change::Begins(k), by),
+            Change::Stays => {}
         }
     }
 }

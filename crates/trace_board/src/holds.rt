@@ -5,7 +5,7 @@ ghost use Rattle.larch_actions.specs.Layout.{most_threads};
 ghost use Rattle.trace_board.specs.History.{entry_of, IsWithin};
 ghost use Rattle.trace_board.specs.Holds.{held_for, hold_to, longer, lengthened, longest_of};
 
-use crate::history::{Effect, Origin, Table};
+use crate::history::{Change, Origin, Table};
 
 /// That a mutex was held from an event up to the event `last`, which gave it back if it `ended`.
 #[derive(Clone, Copy)]
@@ -86,18 +86,18 @@ impl Longest {
     }
 
     /// Notes the effect on a mutex by the event at this place.
-    pub fn note(&mut self, effect: Effect, place: u64, held: &Table)
+    pub fn note(&mut self, effect: Change, place: u64, held: &Table)
         requires { IsWithin effect }
         ensures { longest_of self.new ≡ lengthened effect place (entry_of held.now) (longest_of self.old) }
     {
         match effect {
-            Effect::Ends(m) => {
+            Change::Ends(m) => {
                 let was = self.at(m);
                 let now = longer(was, hold_to(true, place, held.at(m)));
                 self.put(m, now);
             }
-            Effect::Begins(_) => {}
-            Effect::Stays => {}
+            Change::Begins(_) => {}
+            Change::Stays => {}
         }
     }
 }

@@ -5,7 +5,7 @@ ghost use Rattle.larch_actions.specs.Layout.{most_threads};
 ghost use Rattle.trace_board.specs.History.{entry_of, IsWithin};
 ghost use Rattle.trace_board.specs.Rows.{empty_row, same_bar, with_bar, let_go, without_bar, has, lane_in, begun_in, ended_in, turned, left, turned_by_semaphore, row_of};
 
-use crate::history::{Effect, Origin, Table};
+use crate::history::{Change, Origin, Table};
 use larch_actions::ThreadId;
 
 /// What a bar is of: a mutex that is held, or a semaphore that is taken.
@@ -196,14 +196,14 @@ impl Rows {
     }
 
     /// Notes the effect on a mutex by this thread.
-    pub fn note(&mut self, effect: Effect, t: u32)
+    pub fn note(&mut self, effect: Change, t: u32)
         requires { t < most_threads }
         ensures { row_of self.new ≡ turned effect t (row_of self.old) }
     {
         match effect {
-            Effect::Begins(m) => self.begin(Bar::Mutex(m), t),
-            Effect::Ends(m) => self.end(Bar::Mutex(m), t),
-            Effect::Stays => {}
+            Change::Begins(m) => self.begin(Bar::Mutex(m), t),
+            Change::Ends(m) => self.end(Bar::Mutex(m), t),
+            Change::Stays => {}
         }
     }
 
@@ -218,15 +218,15 @@ impl Rows {
     }
 
     /// Notes the effect on a semaphore by this thread.
-    pub fn note_semaphore(&mut self, effect: Effect, t: u32, taken: &Table)
+    pub fn note_semaphore(&mut self, effect: Change, t: u32, taken: &Table)
         requires thread { t < most_threads }
         requires within { IsWithin effect }
         ensures { row_of self.new ≡ turned_by_semaphore effect t (entry_of taken.now) (row_of self.old) }
     {
         match effect {
-            Effect::Begins(s) => self.begin(Bar::Semaphore(s), t),
-            Effect::Ends(s) => self.leave(s, taken.at(s)),
-            Effect::Stays => {}
+            Change::Begins(s) => self.begin(Bar::Semaphore(s), t),
+            Change::Ends(s) => self.leave(s, taken.at(s)),
+            Change::Stays => {}
         }
     }
 }

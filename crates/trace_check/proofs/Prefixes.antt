@@ -95,9 +95,9 @@ same_prefix l l' es es' a b ok ok' fits named named' le e =
     let shape = λ (k : Layout) (xs : List Event) (r : List ℕ).
     append_assoc (head_text k) (event_lines 0 xs) r ∙ append_assoc (first_line k.version) (layout_line k) (event_lines 0 xs ++ r)
     in
-    let behind = layout_line l ++ (event_lines 0 es ++ a) in
-    let behind' = layout_line l' ++ (event_lines 0 es' ++ b) in
-    let laid = same_line expect.Head tt (line.Head l.version) (line.Head l'.version) behind behind' tt tt (sym (shape l es a) ∙ e ∙ shape l' es' b) in
+    let following = layout_line l ++ (event_lines 0 es ++ a) in
+    let following' = layout_line l' ++ (event_lines 0 es' ++ b) in
+    let laid = same_line expect.Head tt (line.Head l.version) (line.Head l'.version) following following' tt tt (sym (shape l es a) ∙ e ∙ shape l' es' b) in
     let v = same_version l.version l'.version laid.0 in
     let s = same_line (expect.Counts l.version) tt (line.Counts l) (line.Counts l') (event_lines 0 es ++ a) (event_lines 0 es' ++ b) (ok, refl) (ok', v) laid.1 in
     let same : l ≡ l' = let k = s.0 in cc in

@@ -19,14 +19,14 @@ use Rattle.exact_text.specs.Prefixes.{Begins}
 use Rattle.exact_text.specs.Exact.{IsShown, HasReason, bytes_room}
 use Rattle.trace_core.specs.Lacking.{Misses, LacksAt}
 use Rattle.trace_core.specs.Made.{IsMade}
-use Rattle.trace_core.specs.Standing.{Standing}
+use Rattle.trace_core.specs.ReaderState.{ReaderState}
 use Rattle.trace_core.specs.Steps.{TakesHead, TakesEvent, TakesEnd, Breaks}
 use Rattle.trace_core.specs.Text.{first_line, layout_line, head_text, event_line, end_line, values_text, rest_text, trace_text, IsTrace, IsRest}
-use Rattle.exact_text.proofs.Texts.{reason_behind}
+use Rattle.exact_text.proofs.Texts.{reason_after}
 use Rattle.trace_core.proofs.LineLaws.{line_code}
 use Rattle.trace_core.proofs.Texts.{line_grammar}
 use Rattle.std.proofs.KnownBytes.{Consumes-trans}
-use Rattle.exact_text.proofs.Stuck.{take_behind}
+use Rattle.exact_text.proofs.Stuck.{take_after}
 use Rattle.trace_core.specs.Whole.{event_lines}
 use Rattle.trace_check.specs.Verdicts.{prefix_text, NoFault, IsCutOff, refusal, IsJust, IsPrefixText, IsLegalText, IsIllegalText}
 use Rattle.trace_check.specs.declared.checker.Summary.{Summary}
@@ -35,7 +35,7 @@ use Rattle.trace_check.proofs.Alike.{AreReadable, readable, plain_all, plain_rea
 use Rattle.trace_check.proofs.Prefixes.{prefix_text-push, prefix_text-plain, rest_text-split, named-push, made-push, readable-last, length-prefix_text, same_prefix, le_total}
 
 -- so far these events were read, and they are a run
-pub record IsUnderWay (budget : ℕ) (left₀ : Option (List ℕ)) (before : ℕ) (st : Standing) (now : ℕ) (m : Moment) (count : ℕ) : Type 0 where
+pub record IsUnderWay (budget : ℕ) (left₀ : Option (List ℕ)) (before : ℕ) (st : ReaderState) (now : ℕ) (m : Moment) (count : ℕ) : Type 0 where
   pub events : List Event
   pub phase : st.phase ≡ phase.Events
   pub lawful : IsLawful st.layout
@@ -51,18 +51,18 @@ pub record IsUnderWay (budget : ℕ) (left₀ : Option (List ℕ)) (before : ℕ
       → HasReason IsTrace (bytes_room budget) 0 left₀ left' before after f
 
 -- the count of events is within the budget
-pub few : (budget : ℕ) (left₀ : Option (List ℕ)) (before : ℕ) (st : Standing) (now : ℕ) (m : Moment) (count : ℕ) → IsUnderWay budget left₀ before st now m count → count ≤ budget
+pub few : (budget : ℕ) (left₀ : Option (List ℕ)) (before : ℕ) (st : ReaderState) (now : ℕ) (m : Moment) (count : ℕ) → IsUnderWay budget left₀ before st now m count → count ≤ budget
 few budget left₀ before st now m count u = omega (arith, length-prefix_text st.layout u.events, u.counted, u.room)
 
--- another event may stand behind the next
-pub possible : (budget : ℕ) (left₀ : Option (List ℕ)) (before : ℕ) (st : Standing) (now : ℕ) (m : Moment) (count : ℕ) → budget < 2 ^ 64 - 1 → IsUnderWay budget left₀ before st now m count → IsLawful st.layout × (st.place + 1 < 2 ^ 64)
+-- another event may stand after the next
+pub possible : (budget : ℕ) (left₀ : Option (List ℕ)) (before : ℕ) (st : ReaderState) (now : ℕ) (m : Moment) (count : ℕ) → budget < 2 ^ 64 - 1 → IsUnderWay budget left₀ before st now m count → IsLawful st.layout × (st.place + 1 < 2 ^ 64)
 possible budget left₀ before st now m count fits u = (u.lawful, omega (arith, few budget left₀ before st now m count u, u.place))
 
 length-push : (xs ys : List ℕ) (n m room room' : ℕ) → room + n ≡ m → room' + length ys ≡ room → length xs ≡ n → room' + length (xs ++ ys) ≡ m
 length-push xs ys n m room room' a b c = omega (arith, length-append xs ys)
 
 -- the bytes up to the end of this event's line
-pub read_on : (budget : ℕ) (left₀ : Option (List ℕ)) (before now : ℕ) (p p' : Standing) (m : Moment) (count : ℕ) (e : Event)
+pub read_on : (budget : ℕ) (left₀ : Option (List ℕ)) (before now : ℕ) (p p' : ReaderState) (m : Moment) (count : ℕ) (e : Event)
     → (u : IsUnderWay budget left₀ before p now m count) → TakesEvent p p' e
     → Consumes left₀ p'.rest (prefix_text p.layout (u.events ++ e ∷ [])) × (p'.room + length (prefix_text p.layout (u.events ++ e ∷ [])) ≡ budget)
 read_on budget left₀ before now p p' m count e u t =
@@ -76,7 +76,7 @@ read_on budget left₀ before now p p' m count e u t =
       length-push (prefix_text p.layout u.events) (event_line p.place e) _ budget p.room p'.room u.room t.passes.room refl,
     )
 
-unfoldable pub step_on : (budget : ℕ) (left₀ : Option (List ℕ)) (before now now' : ℕ) (p p' : Standing) (m m' : Moment) (count : ℕ) (e : Event) → budget < 2 ^ 64 - 1
+unfoldable pub step_on : (budget : ℕ) (left₀ : Option (List ℕ)) (before now now' : ℕ) (p p' : ReaderState) (m m' : Moment) (count : ℕ) (e : Event) → budget < 2 ^ 64 - 1
     → IsUnderWay budget left₀ before p now m count → TakesEvent p p' e → Acts (spec_of m) e (spec_of m') → m'.layout ≡ m.layout → now ≤ now' → IsUnderWay budget left₀ before p' now' m' (count + 1)
 step_on budget left₀ before now now' p p' m m' count e fits u t a same le =
     let r = read_on budget left₀ before now p p' m count e u t in record {
@@ -93,7 +93,7 @@ step_on budget left₀ before now now' p p' m m' count e fits u t a same le =
       room = rw t.layout r.1;
       reasons = λ left'' after f h.
           u.reasons left'' after f
-          (reason_behind (line_grammar (expect.Events p.layout p.place) (possible budget left₀ before p now m count fits u)) (line_code (expect.Events p.layout p.place) (possible budget left₀ before p now m count fits u)) (line.Event e) (t.names, t.made) p.rest p'.rest left'' p.lines p.room p'.room now now' after f t.passes.bytes t.passes.room le
+          (reason_after (line_grammar (expect.Events p.layout p.place) (possible budget left₀ before p now m count fits u)) (line_code (expect.Events p.layout p.place) (possible budget left₀ before p now m count fits u)) (line.Event e) (t.names, t.made) p.rest p'.rest left'' p.lines p.room p'.room now now' after f t.passes.bytes t.passes.room le
           (rw (t.layout, t.place, t.passes.lines) at h));
     }
 
@@ -102,10 +102,10 @@ consumes_some bytes None text c = absurd c
 consumes_some bytes (Some ys) text c = (ys, c, refl)
 
 -- the events that were read stand at the front of the input
-unfoldable pub prefix_read : (budget : ℕ) (left₀ : Option (List ℕ)) (before now : ℕ) (p : Standing) (m : Moment) (count : ℕ) → IsUnderWay budget left₀ before p now m count
+unfoldable pub prefix_read : (budget : ℕ) (left₀ : Option (List ℕ)) (before now : ℕ) (p : ReaderState) (m : Moment) (count : ℕ) → IsUnderWay budget left₀ before p now m count
     → (bytes : List ℕ) → left₀ ≡ Some bytes → IsPrefixText budget bytes
-prefix_read budget left₀ before now p m count u bytes told_is =
-    let b = consumes_some bytes p.rest (prefix_text p.layout u.events) (subst (λ o. Consumes o p.rest (prefix_text p.layout u.events)) told_is u.read) in
+prefix_read budget left₀ before now p m count u bytes reported_is =
+    let b = consumes_some bytes p.rest (prefix_text p.layout u.events) (subst (λ o. Consumes o p.rest (prefix_text p.layout u.events)) reported_is u.read) in
     record {
       layout = p.layout;
       events = u.events;
@@ -130,7 +130,7 @@ no_more l' l place es (x ∷ tail) seen more at same named some e misses =
     misses x (event_lines (length es + 1) tail ++ more) (subst (λ k. HasNames k x) (sym same) named.0.0)
     (e ∙ append_assoc (event_line (length es) x) (event_lines (length es + 1) tail) more ∙ ap (λ n. event_line n x ++ (event_lines (length es + 1) tail ++ more)) at)
 
--- where no further event stands behind a run, all events are of the run
+-- where no further event stands after a run, all events are of the run
 no_fault : (l' : Layout) (events : List Event) (place : ℕ) (last : Spec) (seen bytes : List ℕ) → IsLawful l' → AreReadable l' events → IsRun l'.version events last → length events ≡ place
     → bytes ≡ prefix_text l' events ++ seen → length bytes < 2 ^ 64 - 1 → Misses (HasNames l') (event_line place) seen → NoFault bytes
 no_fault l' events place last seen bytes lawful names run at cut fits misses = λ l ds more ok said eq₀.
@@ -155,19 +155,19 @@ no_fault l' events place last seen bytes lawful names run at cut fits misses = �
 pub whole_at : (r : Option (List ℕ)) (ys : List ℕ) (Holds : List ℕ → Type 0) → r ≡ Some ys → IfSome r Holds → Holds ys
 whole_at r ys Holds e h = let Q : Option (List ℕ) → Type 0 = λ o. IfSome o Holds in subst Q e h
 
-within_budget : (budget : ℕ) (left₀ : Option (List ℕ)) (before now : ℕ) (p : Standing) (m : Moment) (count : ℕ) → budget < 2 ^ 64 - 1
+within_budget : (budget : ℕ) (left₀ : Option (List ℕ)) (before now : ℕ) (p : ReaderState) (m : Moment) (count : ℕ) → budget < 2 ^ 64 - 1
     → IsUnderWay budget left₀ before p now m count → IfSome p.rest (λ input. Misses (HasNames p.layout) (event_line p.place) (take p.room input)) → IfSome left₀ (λ bytes. NoFault (take budget bytes))
 within_budget budget None before now p m count fits u misses = tt
 within_budget budget (Some bytes) before now p m count fits u misses =
     let prefix = prefix_text p.layout u.events in
     let b = consumes_some bytes p.rest prefix u.read in
-    let cut : take budget bytes ≡ prefix ++ take p.room b.0 = take_behind prefix bytes b.0 budget p.room b.1 u.room in
+    let cut : take budget bytes ≡ prefix ++ take p.room b.0 = take_after prefix bytes b.0 budget p.room b.1 u.room in
     let short : length (take budget bytes) < 2 ^ 64 - 1 = omega (arith, length-take budget bytes) in
     no_fault p.layout u.events p.place (spec_of m) (take p.room b.0) (take budget bytes) u.lawful (readable p.layout u.events u.named u.made) u.run (u.counted ∙ sym u.place) cut short
     (whole_at p.rest b.0 (λ input. Misses (HasNames p.layout) (event_line p.place) (take p.room input)) b.2 misses)
 
 -- an event that fails
-unfoldable pub fails_on : (budget : ℕ) (left₀ : Option (List ℕ)) (before now : ℕ) (p p' : Standing) (m : Moment) (count : ℕ) (e : Event) (why : Broken)
+unfoldable pub fails_on : (budget : ℕ) (left₀ : Option (List ℕ)) (before now : ℕ) (p p' : ReaderState) (m : Moment) (count : ℕ) (e : Event) (why : Broken)
     → IsUnderWay budget left₀ before p now m count → TakesEvent p p' e → Fails (spec_of m) e why → IfSome left₀ (λ bytes. IsIllegalText budget bytes count why)
 fails_on budget None before now p p' m count e why u t f = tt
 fails_on budget (Some bytes) before now p p' m count e why u t f =
@@ -199,7 +199,7 @@ cut_off : (bytes : List ℕ) (left' : Option (List ℕ)) (given given' : List �
 cut_off bytes None given given' a b = absurd a
 cut_off bytes (Some ys) given given' a b = append_cancel_right given given' ys (sym a ∙ b)
 
-read_just : (budget : ℕ) (left₀ left' : Option (List ℕ)) (before now' : ℕ) (p : Standing) (now : ℕ) (m : Moment) (count : ℕ) → budget < 2 ^ 64 - 1
+read_just : (budget : ℕ) (left₀ left' : Option (List ℕ)) (before now' : ℕ) (p : ReaderState) (now : ℕ) (m : Moment) (count : ℕ) → budget < 2 ^ 64 - 1
     → IsUnderWay budget left₀ before p now m count → HasReason IsTrace (bytes_room budget) 0 left₀ left' before now' fault.Read
     → LacksAt (HasNames p.layout) (event_line p.place) p.room p.rest left' fault.Read → IsJust budget left₀ left' before now' (refusal fault.Read)
 read_just budget None left' before now' p now m count fits u h l = (h.0, tt)
@@ -210,7 +210,7 @@ read_just budget (Some bytes) left' before now' p now m count fits u h l =
     let short : length h.1.0 < 2 ^ 64 - 1 = omega (arith, h.1.3) in
     (h.0, (h.1.0, h.1.1, h.1.2, h.1.3, no_fault p.layout u.events p.place (spec_of m) l.0 h.1.0 u.lawful (readable p.layout u.events u.named u.made) u.run (u.counted ∙ sym u.place) same short l.2))
 
-pub fault_on : (budget : ℕ) (left₀ left' : Option (List ℕ)) (before now now' : ℕ) (p p' : Standing) (m : Moment) (count : ℕ) (f : TextFault) → budget < 2 ^ 64 - 1
+pub fault_on : (budget : ℕ) (left₀ left' : Option (List ℕ)) (before now now' : ℕ) (p p' : ReaderState) (m : Moment) (count : ℕ) (f : TextFault) → budget < 2 ^ 64 - 1
     → IsUnderWay budget left₀ before p now m count → Breaks (IsRest p.layout p.place) (HasNames p.layout) (event_line p.place) p p' left' now now' f → IsJust budget left₀ left' before now' (refusal f)
 fault_on budget left₀ left' before now now' p p' m count fault.Memory fits u b = absurd b.reason
 fault_on budget left₀ left' before now now' p p' m count (fault.BadLine k) fits u b = bad_just budget left₀ k (u.reasons left' now' (fault.BadLine k) b.reason).1 (within_budget budget left₀ before now p m count fits u b.lacks)
@@ -238,7 +238,7 @@ head_fault budget left₀ left' before now (fault.BadLine k) h l = bad_just budg
 head_fault budget left₀ left' before now fault.TooLong h l = long_just budget left₀ h (no_head budget left₀ l)
 head_fault budget left₀ left' before now fault.Read h l = (h.0, cut_in_head left₀ left' before now budget h l)
 
-unfoldable pub ends_on : (budget : ℕ) (left₀ : Option (List ℕ)) (before now : ℕ) (p p' : Standing) (m : Moment) (count : ℕ) (s : Summary) → budget < 2 ^ 64 - 1
+unfoldable pub ends_on : (budget : ℕ) (left₀ : Option (List ℕ)) (before now : ℕ) (p p' : ReaderState) (m : Moment) (count : ℕ) (s : Summary) → budget < 2 ^ 64 - 1
     → IsUnderWay budget left₀ before p now m count → TakesEnd p p' → s.events ≡ count → s.held ≡ held m.layout (spec_of m) → s.waiting ≡ waiting m.layout (spec_of m) → s.alerted ≡ alerted m.layout (spec_of m)
     → IfSome left₀ (λ bytes. IsLegalText budget bytes s)
 ends_on budget None before now p p' m count s fits u t e h w a = tt
@@ -266,7 +266,7 @@ ends_on budget (Some bytes) before now p p' m count s fits u t e h w a =
       };
     }
 
-unfoldable pub starts_on : (budget : ℕ) (left₀ : Option (List ℕ)) (before now : ℕ) (p p' : Standing) (l : Layout) (m : Moment)
+unfoldable pub starts_on : (budget : ℕ) (left₀ : Option (List ℕ)) (before now : ℕ) (p p' : ReaderState) (l : Layout) (m : Moment)
     → p.rest ≡ left₀ → p.room ≡ budget → p.lines ≡ 0 → TakesHead p p' l → before ≤ now → m.layout ≡ l → spec_of m ≡ at_first l.version → IsUnderWay budget left₀ before p' now m 0
 starts_on budget left₀ before now p p' l m rest room lines t le laid first =
     let bytes : Consumes left₀ p'.rest (head_text l) = rw rest at t.passes.bytes in
@@ -289,6 +289,6 @@ starts_on budget left₀ before now p p' l m rest room lines t le laid first =
       reasons = λ left'' after f h.
           let k = rw (t.layout, t.place, t.passes.lines ∙ ap (λ n. n + 2) lines) at h in
           let room₁ = p'.room + length (layout_line l) in
-          let laid = reason_behind (line_grammar (expect.Counts l.version) tt) (line_code (expect.Counts l.version) tt) (line.Counts l) (t.lawful, refl) split.0 p'.rest left'' 1 room₁ p'.room now now after f split.2 refl (omega arith) k in
-          reason_behind (line_grammar expect.Head tt) (line_code expect.Head tt) (line.Head l.version) tt left₀ split.0 left'' 0 budget room₁ before now after f split.1 (omega (arith, size, sum)) le laid;
+          let laid = reason_after (line_grammar (expect.Counts l.version) tt) (line_code (expect.Counts l.version) tt) (line.Counts l) (t.lawful, refl) split.0 p'.rest left'' 1 room₁ p'.room now now after f split.2 refl (omega arith) k in
+          reason_after (line_grammar expect.Head tt) (line_code expect.Head tt) (line.Head l.version) tt left₀ split.0 left'' 0 budget room₁ before now after f split.1 (omega (arith, size, sum)) le laid;
     }

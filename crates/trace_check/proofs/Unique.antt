@@ -16,7 +16,7 @@ use Rattle.exact_text.specs.Prefixes.{Begins, first_lines, IsBrokenAt}
 use Rattle.exact_text.specs.Exact.{IsShown}
 use Rattle.trace_core.specs.Text.{MutexValue, head_text, event_line, end_line, values_text, trace_text, IsTrace}
 use Rattle.trace_core.proofs.Outcomes.{same_line}
-use Rattle.exact_text.proofs.Stuck.{take_behind}
+use Rattle.exact_text.proofs.Stuck.{take_after}
 use Rattle.trace_check.specs.declared.checker.Summary.{Summary}
 use Rattle.trace_check.specs.declared.checker.Verdict.{Verdict}
 use Rattle.trace_check.specs.declared.checker.Verdict.TheVariants.{Legal, Illegal, BadLine, TooLong, ReadFault}
@@ -39,7 +39,7 @@ illegal_excludes budget bytes place why i none =
     let es = i.events ++ i.event ∷ [] in
     let prefix = prefix_text i.layout es in
     let e : budget - length prefix + length prefix ≡ budget = omega (arith, i.within) in
-    let r = none i.layout es (take (budget - length prefix) i.rest) i.lawful i.named (take_behind prefix bytes i.rest budget (budget - length prefix) i.text e) in
+    let r = none i.layout es (take (budget - length prefix) i.rest) i.lawful i.named (take_after prefix bytes i.rest budget (budget - length prefix) i.text e) in
     let f = failing i.layout.version i.events i.event why i.fault in
     no_run (at_first i.layout.version) f.0 r.0 i.events i.event why r.1 f.1 f.2
 
@@ -299,6 +299,6 @@ one_verdict budget bytes left left' a b c d TooLong ReadFault fits x y h k = abs
 -- where the source tells its bytes and no read failed, another verdict that is just is the same
 pub exact_at : (budget : ℕ) (left left' : Option (List ℕ)) (before now : ℕ) (bytes : List ℕ) (v w : Verdict) → budget < 2 ^ 64 - 1 → left ≡ Some bytes → v ≢ ReadFault → w ≢ ReadFault
     → IsJust budget left left' before now v → IsJust budget left left' before now w → v ≡ w
-exact_at budget left left' before now bytes v w fits told x y h k =
+exact_at budget left left' before now bytes v w fits reported x y h k =
     let P : Verdict → Option (List ℕ) → Type 0 = λ z o. IsJust budget o left' before now z in
-    one_verdict budget bytes left' left' before now before now v w fits x y (subst (P v) told h) (subst (P w) told k)
+    one_verdict budget bytes left' left' before now before now v w fits x y (subst (P v) reported h) (subst (P w) reported k)

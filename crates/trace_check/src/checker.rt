@@ -43,7 +43,7 @@ pub struct Found {
 }
 
 // The verdict on a text that can't be read.
-fn refused(fault: TextFault) -> Verdict
+fn verdict_of(fault: TextFault) -> Verdict
     ensures { result ≡ refusal fault }
 {
     match fault {
@@ -88,7 +88,7 @@ pub fn check_with<I: Source, W: Watch>(
         watcher.new) }
     ensures stopped { IfErr result (HasStopped W.stops budget (I.left input.old) watcher.old watcher.new) }
     // A failed read is reported, and a read can fail only where no verdict is due yet. So nothing is asked once a byte decides.
-    ensures told { IfOk result (λ f. f.verdict ≢ verdict.ReadFault → I.faults input.new ≡ I.faults input.old) }
+    ensures reported { IfOk result (λ f. f.verdict ≢ verdict.ReadFault → I.faults input.new ≡ I.faults input.old) }
     ensures unfailed { OnErr result (I.faults input.new ≡ I.faults input.old) }
     ensures later { I.faults input.old ≤ I.faults input.new }
 {
@@ -111,7 +111,7 @@ fn watch_all<I: Source, W: Watch>(
     ensures stopped { IfErr result (HasStopped W.stops (standing I.left reader.old).room (standing I.left reader.old).rest watcher.old
         watcher.new) }
     ensures same_input { (input_of reader.new).ghost_name ≡ (input_of reader.old).ghost_name }
-    ensures told { IfOk result (λ f. f.verdict ≢ verdict.ReadFault
+    ensures reported { IfOk result (λ f. f.verdict ≢ verdict.ReadFault
         → I.faults (input_of reader.new).now ≡ I.faults (input_of reader.old).now) }
     ensures unfailed { OnErr result (I.faults (input_of reader.new).now ≡ I.faults (input_of reader.old).now) }
     ensures later { I.faults (input_of reader.old).now ≤ I.faults (input_of reader.new).now }
@@ -120,7 +120,7 @@ fn watch_all<I: Source, W: Watch>(
         Ok(layout) => layout,
         Err(fault) => {
             return Ok(Found {
-                verdict: refused(fault),
+                verdict: verdict_of(fault),
                 layout: None,
                 failed: None,
             });
@@ -158,7 +158,7 @@ fn watch_all<I: Source, W: Watch>(
             }
             Err(fault) => {
                 return Ok(Found {
-                    verdict: refused(fault),
+                    verdict: verdict_of(fault),
                     layout: Some(layout),
                     failed: None,
                 });
@@ -196,7 +196,7 @@ pub fn check<I: Source>(input: &mut I, budget: u64) -> Verdict
         → verdict ≢ Verdict.ReadFault
         → IsJust budget (I.left input.old) (I.left input.new) (I.faults input.old) (I.faults input.new) verdict → result ≡ verdict }
     // A failed read is reported, and a read can fail only where no verdict is due yet. So nothing is asked once a byte decides.
-    ensures told { result ≢ Verdict.ReadFault → I.faults input.new ≡ I.faults input.old }
+    ensures reported { result ≢ Verdict.ReadFault → I.faults input.new ≡ I.faults input.old }
     ensures later { I.faults input.old ≤ I.faults input.new }
 {
     match check_with(input, budget, &mut Unwatched) {

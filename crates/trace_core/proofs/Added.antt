@@ -23,26 +23,26 @@ added_pair old mid new p q r e f = added_two old mid new p (q ++ r) e f ∙ ap (
 pub added_four : (old a b c new p q r s : List ℕ) → a ≡ old ++ p → b ≡ a ++ q → c ≡ b ++ r → new ≡ c ++ s → new ≡ old ++ (p ++ q ++ r ++ s)
 added_four old a b c new p q r s e f g h = added_two old c new (p ++ q ++ r) s (added_three old a b c p q r e f g) h
 
--- a text with its names and its ending, behind another text
-name_behind : (old prefix : List ℕ) (k : Kind) (n : ℕ) → with_name (old ++ prefix) k n ≡ old ++ with_name prefix k n
-name_behind old prefix k n = simp append_assoc
+-- a text with its names and its ending, after another text
+name_after : (old prefix : List ℕ) (k : Kind) (n : ℕ) → with_name (old ++ prefix) k n ≡ old ++ with_name prefix k n
+name_after old prefix k n = simp append_assoc
 
-names_behind : (old prefix : List ℕ) (ks : Kinds) (x : Numbers) → with_names (old ++ prefix) ks x ≡ old ++ with_names prefix ks x
-names_behind old prefix kinds.Nothing x = refl
-names_behind old prefix (kinds.One k) x = name_behind old prefix k x.first
-names_behind old prefix (kinds.Two k j) x = ap (λ l. with_name l j x.second) (name_behind old prefix k x.first) ∙ name_behind old (with_name prefix k x.first) j x.second
+names_past : (old prefix : List ℕ) (ks : Kinds) (x : Numbers) → with_names (old ++ prefix) ks x ≡ old ++ with_names prefix ks x
+names_past old prefix kinds.Nothing x = refl
+names_past old prefix (kinds.One k) x = name_after old prefix k x.first
+names_past old prefix (kinds.Two k j) x = ap (λ l. with_name l j x.second) (name_after old prefix k x.first) ∙ name_after old (with_name prefix k x.first) j x.second
 
-ending_behind : (old prefix : List ℕ) (e : Ending) → with_ending (old ++ prefix) e ≡ old ++ with_ending prefix e
-ending_behind old prefix Nothing = refl
-ending_behind old prefix Returns = append_assoc old prefix (codes " returns")
-ending_behind old prefix Raises = append_assoc old prefix (codes " raises")
-ending_behind old prefix Yes = append_assoc old prefix (codes " yes")
-ending_behind old prefix No = append_assoc old prefix (codes " no")
-ending_behind old prefix (Left left) = simp append_assoc
+ending_after : (old prefix : List ℕ) (e : Ending) → with_ending (old ++ prefix) e ≡ old ++ with_ending prefix e
+ending_after old prefix Nothing = refl
+ending_after old prefix Returns = append_assoc old prefix (codes " returns")
+ending_after old prefix Raises = append_assoc old prefix (codes " raises")
+ending_after old prefix Yes = append_assoc old prefix (codes " yes")
+ending_after old prefix No = append_assoc old prefix (codes " no")
+ending_after old prefix (Left left) = simp append_assoc
 
 pub added_row : (old word a b new : List ℕ) (ks : Kinds) (x : Numbers) (e : Ending) → a ≡ old ++ word → b ≡ with_names a ks x → new ≡ with_ending b e → new ≡ old ++ with_ending (with_names word ks x) e
 added_row old word a b new ks x e f g h =
-    h ∙ ap (λ l. with_ending l e) (g ∙ ap (λ l. with_names l ks x) f ∙ names_behind old word ks x) ∙ ending_behind old (with_names word ks x) e
+    h ∙ ap (λ l. with_ending l e) (g ∙ ap (λ l. with_names l ks x) f ∙ names_past old word ks x) ∙ ending_after old (with_names word ks x) e
 
 -- five pieces, of which the second has two parts
 pub added_five : (old a b c d new p q r s t u : List ℕ) → a ≡ old ++ p → b ≡ a ++ (q ++ r) → c ≡ b ++ s → d ≡ c ++ t → new ≡ d ++ u → new ≡ old ++ (p ++ q ++ r ++ s ++ t ++ u)

@@ -24,7 +24,7 @@ undecided_event l n ok w e =
     let x = expect.Events l n in
     (prefix (line_grammar x ok) (line_code x ok) w e, λ v a h eq. more_lacks x ok w e (line.Event (plain_event v)) a (plain_is_read l ok.0 v h) (eq ∙ ap (λ t. t ++ a) (sym (plain_line l ok.0 n v h))))
 
--- behind the end line the values decide
+-- after the end line the values decide
 pub undecided_end : (l : Layout) (n : ℕ) → IsPossible (expect.Events l n) → (w w' : List ℕ) → line_at (expect.Events l n) w ≡ Ok (line.End, w') → Begins (IsValues l 0) w' → IsUndecided (IsRest l n) (HasNames l) (event_line n) w
 undecided_end l n ok w w' e b =
     let x = expect.Events l n in

@@ -31,7 +31,7 @@ values_end l least room (Some xs) (Some ys) w e k end =
     let none : w ++ xs ≡ [] = ap (λ l. l ++ xs) e ∙ sym k ∙ end in
     (([], tt, none), omega (arith, ap length none))
 
--- bytes behind the end of a text that can't go on are a bad line
+-- bytes after the end of a text that can't go on are a bad line
 past_end : (T : List ℕ → Type 0) → ((bytes : List ℕ) → T bytes → bytes ≡ []) → Begins T [] → (r left : Option (List ℕ)) (w : List ℕ) (room : ℕ) → Keeps r (prepend_known w left) → length w ≤ room → 0 < length w → IfSome r (λ input. IsShown T room input 1)
 past_end T only empty None left w room k le some = tt
 past_end T only empty (Some xs) None w room k le some = absurd k

@@ -2,7 +2,7 @@
 use Rattle.std.proofs.Common.{◌≡◌, ℕ, ◌+◌, ◌≤◌, List, ◌++◌, length, length-append, take, drop, sym, ap, ◌∙◌, append_assoc, arith}
 use Rattle.std.proofs.lemmas.List.{take-append-drop, take_at, length-take}
 
--- a text that ends at a place, with all before it and behind it as it was
+-- a text that ends at a place, with all before it and after it as it was
 pub in_place : (old new text : List ℕ) (start at end : ℕ) → start + length text ≡ end → at + length text ≡ end → end ≤ length old → drop start new ≡ text ++ drop end old
     → take start new ≡ take start old → take end new ≡ take at old ++ text
 in_place old new text start at end here wanted low written before =

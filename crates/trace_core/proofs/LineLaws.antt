@@ -184,7 +184,7 @@ head_code = as_code (flag_code (first_line version.One) (first_line version.Two)
 counts_line_code : (v : Version) → IsCode (IsAllowed (expect.Counts v)) (line_text (expect.Counts v)) (line_at (expect.Counts v))
 counts_line_code v = as_code (counts_code v) line.Counts (IsAllowed (expect.Counts v)) (line_text (expect.Counts v)) (λ l h. (h, refl)) (counts_from v)
 
--- a mutex from least on behind a space, and a value
+-- a mutex from least on after a space, and a value
 abbrev IsValue : Layout → ℕ → (ℕ × ℕ) × ℕ → Type 0
 IsValue l least p = IsStopped false least l.mutexes p.0 × ((0 ≤ p.1) × (p.1 < 2 ^ 64))
 

@@ -21,7 +21,7 @@ use Rattle.exact_text.proofs.CodeLaws.{ok_injective}
 use Rattle.trace_core.specs.Lines.{line_at, line_text, IsPossible, IsAllowed}
 use Rattle.trace_core.proofs.LineLaws.{line_code}
 use Rattle.trace_core.proofs.Plain.{plain_event, plain_is_read, plain_line}
-use Rattle.exact_text.proofs.Stuck.{for_some, take_behind}
+use Rattle.exact_text.proofs.Stuck.{for_some, take_after}
 use Rattle.std.proofs.KnownBytes.{Consumes-trans}
 
 misses : (x : Expect) → IsPossible x → (w : List ℕ) (s : Stop) → line_at x w ≡ Err s → Misses (IsAllowed x) (line_text x) w
@@ -57,21 +57,21 @@ lacks_also lawful text lawful' text' room r left' (BadLine k) f h = for_some r (
 lacks_also lawful text lawful' text' room r left' TooLong f h = for_some r (λ xs. f (take room xs)) h
 lacks_also lawful text lawful' text' room r left' Read f h = (h.0, h.1, f h.0 h.2)
 
--- the same behind some bytes
-misses_behind : {X Y : Type 0} (lawful : X → Type 0) (text : X → List ℕ) (lawful' : Y → Type 0) (text' : Y → List ℕ) (prefix : List ℕ) (room room' : ℕ) (r r' : Option (List ℕ))
+-- the same after some bytes
+misses_after : {X Y : Type 0} (lawful : X → Type 0) (text : X → List ℕ) (lawful' : Y → Type 0) (text' : Y → List ℕ) (prefix : List ℕ) (room room' : ℕ) (r r' : Option (List ℕ))
     → ((bytes : List ℕ) → Misses lawful text bytes → Misses lawful' text' (prefix ++ bytes)) → Consumes r r' prefix → room' + length prefix ≡ room
     → IfSome r' (λ input. Misses lawful text (take room' input)) → IfSome r (λ input. Misses lawful' text' (take room input))
-misses_behind lawful text lawful' text' prefix room room' None r' f c same h = tt
-misses_behind lawful text lawful' text' prefix room room' (Some xs) None f c same h = absurd c
-misses_behind lawful text lawful' text' prefix room room' (Some xs) (Some ys) f c same h = subst (Misses lawful' text') (sym (take_behind prefix xs ys room room' c same)) (f (take room' ys) h)
+misses_after lawful text lawful' text' prefix room room' None r' f c same h = tt
+misses_after lawful text lawful' text' prefix room room' (Some xs) None f c same h = absurd c
+misses_after lawful text lawful' text' prefix room room' (Some xs) (Some ys) f c same h = subst (Misses lawful' text') (sym (take_after prefix xs ys room room' c same)) (f (take room' ys) h)
 
-lacks_behind : {X Y : Type 0} (lawful : X → Type 0) (text : X → List ℕ) (lawful' : Y → Type 0) (text' : Y → List ℕ) (prefix : List ℕ) (room room' : ℕ) (r r' left' : Option (List ℕ)) (fault : TextFault)
+lacks_after : {X Y : Type 0} (lawful : X → Type 0) (text : X → List ℕ) (lawful' : Y → Type 0) (text' : Y → List ℕ) (prefix : List ℕ) (room room' : ℕ) (r r' left' : Option (List ℕ)) (fault : TextFault)
     → ((bytes : List ℕ) → Misses lawful text bytes → Misses lawful' text' (prefix ++ bytes)) → Consumes r r' prefix → room' + length prefix ≡ room
     → LacksAt lawful text room' r' left' fault → LacksAt lawful' text' room r left' fault
-lacks_behind lawful text lawful' text' prefix room room' r r' left' Memory f c same h = h
-lacks_behind lawful text lawful' text' prefix room room' r r' left' (BadLine k) f c same h = misses_behind lawful text lawful' text' prefix room room' r r' f c same h
-lacks_behind lawful text lawful' text' prefix room room' r r' left' TooLong f c same h = misses_behind lawful text lawful' text' prefix room room' r r' f c same h
-lacks_behind lawful text lawful' text' prefix room room' r r' left' Read f c same h = (prefix ++ h.0, Consumes-trans r r' left' prefix h.0 c h.1, f h.0 h.2)
+lacks_after lawful text lawful' text' prefix room room' r r' left' Memory f c same h = h
+lacks_after lawful text lawful' text' prefix room room' r r' left' (BadLine k) f c same h = misses_after lawful text lawful' text' prefix room room' r r' f c same h
+lacks_after lawful text lawful' text' prefix room room' r r' left' TooLong f c same h = misses_after lawful text lawful' text' prefix room room' r r' f c same h
+lacks_after lawful text lawful' text' prefix room room' r r' left' Read f c same h = (prefix ++ h.0, Consumes-trans r r' left' prefix h.0 c h.1, f h.0 h.2)
 
 abbrev IsNone : ℕ → Type 0
 IsNone n = ⊥
@@ -90,11 +90,11 @@ nothing_lacks T lines room None left' before now TooLong h = tt
 nothing_lacks T lines room (Some xs) left' before now TooLong h = misses_none (take room xs)
 nothing_lacks T lines room r left' before now Read h = (h.1.0, h.1.1, misses_none h.1.0)
 
--- behind the end line no event was there
+-- after the end line no event was there
 pub end_lacks : (l : Layout) (n : ℕ) → IsPossible (expect.Events l n) → (T : List ℕ → Type 0) (lines room room' : ℕ) (r r' left' : Option (List ℕ)) (before now : ℕ) (fault : TextFault)
     → Consumes r r' (end_line n) → room' + length (end_line n) ≡ room → HasReason T (bytes_room room') lines r' left' before now fault → LacksAt (HasNames l) (event_line n) room r left' fault
 end_lacks l n ok T lines room room' r r' left' before now fault c same h =
-    lacks_behind IsNone none_text (HasNames l) (event_line n) (end_line n) room room' r r' left' fault
+    lacks_after IsNone none_text (HasNames l) (event_line n) (end_line n) room room' r r' left' fault
     (λ bytes _ e a p eq.
     let s = same_line (expect.Events l n) ok line.End (line.Event (plain_event e)) bytes a tt (plain_is_read l ok.0 e p) (eq ∙ ap (λ t. t ++ a) (sym (plain_line l ok.0 n e p))) in
     let k = s.0 in absurd (cc))
@@ -116,7 +116,7 @@ first_lacks r left' room fault h =
 pub counts_lacks : (v : Version) (r r' left' : Option (List ℕ)) (room room' : ℕ) (fault : TextFault) → Consumes r r' (first_line v) → room' + length (first_line v) ≡ room
     → LacksAt (IsAllowed (expect.Counts v)) (line_text (expect.Counts v)) room' r' left' fault → LacksAt IsLawful head_text room r left' fault
 counts_lacks v r r' left' room room' fault c same h =
-    lacks_behind (IsAllowed (expect.Counts v)) (line_text (expect.Counts v)) IsLawful head_text (first_line v) room room' r r' left' fault
+    lacks_after (IsAllowed (expect.Counts v)) (line_text (expect.Counts v)) IsLawful head_text (first_line v) room room' r r' left' fault
     (λ bytes m l a p eq.
     let s = same_line expect.Head tt (line.Head v) (line.Head l.version) bytes (layout_line l ++ a) tt tt (eq ∙ append_assoc (first_line l.version) (layout_line l) a) in
     m (line.Counts l) a (p, same_version v l.version s.0) s.1)

@@ -9,7 +9,7 @@ use Rattle.exact_text.proofs.Numbers.{number_at-found}
 place_is : (n : ℕ) (rest : List ℕ) → place_at n (decimal n ++ (32 ∷ rest)) ≡ word_at (codes "t") rest
 place_is n rest = rw (word_at-again (decimal n) (32 ∷ rest)) refl
 
--- a number with a space behind it is the place
+-- a number with a space after it is the place
 pub place_read : (n place : ℕ) (bytes rest : List ℕ) → n ≡ place → number_at 0 (2 ^ 64) 32 bytes ≡ Ok (n, rest) → place_at place bytes ≡ word_at (codes "t") rest
 place_read n place bytes rest same e =
     let f = number_at-found 0 (2 ^ 64) 32 (omega arith) bytes rest n e in

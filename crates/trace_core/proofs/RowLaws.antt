@@ -25,7 +25,7 @@ use Rattle.larch_actions.proofs.Table.{action_back, is_row, row_back, place_of, 
 use Rattle.exact_text.specs.Codes.{IsCode}
 use Rattle.trace_core.specs.Made.{IsMade, IsMadeEnding}
 use Rattle.trace_core.specs.Names.{names_at, set_from}
-use Rattle.trace_core.specs.Lines.{stop_of, gap_of, outcome_of, ending_at, name_at, behind_at, are_some, is_in, may_stand, row_at, rows_at, action_at}
+use Rattle.trace_core.specs.Lines.{stop_of, gap_of, outcome_of, ending_at, name_at, after_at, are_some, is_in, may_stand, row_at, rows_at, action_at}
 use Rattle.exact_text.specs.Reading.{as_value}
 use Rattle.trace_core.specs.Text.{row_text, members, newline}
 use Rattle.exact_text.proofs.CodeLaws.{AreApart, no_code, nothing_code, same_code, word_code, then_code, as_code, or_code, only_code}
@@ -34,7 +34,7 @@ use Rattle.exact_text.proofs.Numbers.{number_code}
 use Rattle.trace_core.proofs.RisingSets.{names_line, names_code}
 use Rattle.trace_core.proofs.Members.{rising-members, below_bound, members-set_from}
 use Rattle.exact_text.proofs.Pieces.{flag_code, flag_text}
-use Rattle.trace_core.proofs.RowTexts.{text, ending_line, name_line, behind_line, start_of, row_is, begins_so}
+use Rattle.trace_core.proofs.RowTexts.{text, ending_line, name_line, after_line, start_of, row_is, begins_so}
 
 -- an ending of this sort, and lawful threads where some are left
 abbrev pub EndsIn : Layout → Endings → Ending → Type 0
@@ -166,33 +166,33 @@ none_lawful l (kinds.One k) x h b = none_below (count_of l k) x.first h b
 none_lawful l (kinds.Two k j) x h b = none_of_two (count_of l k) (count_of l j) x.first x.second h b.0 b.1
 
 -- lawful names and a lawful ending
-abbrev AreBehind : Layout → Kinds → Endings → Numbers × Ending → Type 0
-AreBehind l ks es p = AreIn l ks p.0 × IsLastly l es p.1
+abbrev AreAfter : Layout → Kinds → Endings → Numbers × Ending → Type 0
+AreAfter l ks es p = AreIn l ks p.0 × IsLastly l es p.1
 
-one_from : (l : Layout) (k : Kind) (es : Endings) (p : Numbers × Ending) → AreBehind l (kinds.One k) es p → (q : ℕ × Ending) × ((q.0 < count_of l k) × IsLastly l es q.1) × (p ≡ (one q.0, q.1))
+one_from : (l : Layout) (k : Kind) (es : Endings) (p : Numbers × Ending) → AreAfter l (kinds.One k) es p → (q : ℕ × Ending) × ((q.0 < count_of l k) × IsLastly l es q.1) × (p ≡ (one q.0, q.1))
 one_from l k es p h = ((p.0.first, p.1), (h.0.0, h.1), (λ i. (record { first = p.0.first; second = h.0.1 i }, p.1)))
 
-behind_code : (l : Layout) → IsLawful l → (ks : Kinds) (es : Endings) → AreSome l ks → IsCode (AreBehind l ks es) (behind_line ks es) (behind_at l ks es)
-behind_code l ok kinds.Nothing es some =
-    as_code (ending_code l ok es) (λ e. (none, e)) (AreBehind l kinds.Nothing es) (behind_line kinds.Nothing es) (λ e h. (((tt, refl), h), refl)) (λ p h. (p.1, h.1, (λ i. (h.0.1 i, p.1))))
-behind_code l ok (kinds.One k) es some =
+after_code : (l : Layout) → IsLawful l → (ks : Kinds) (es : Endings) → AreSome l ks → IsCode (AreAfter l ks es) (after_line ks es) (after_at l ks es)
+after_code l ok kinds.Nothing es some =
+    as_code (ending_code l ok es) (λ e. (none, e)) (AreAfter l kinds.Nothing es) (after_line kinds.Nothing es) (λ e h. (((tt, refl), h), refl)) (λ p h. (p.1, h.1, (λ i. (h.0.1 i, p.1))))
+after_code l ok (kinds.One k) es some =
     let both = then_code (name_code l ok k (stop_of es) some (stop_low es)) (λ _ e. IsLastly l es e) (λ _ e. ending_line e) (λ _. ending_at l es) (λ _ _. ending_code l ok es) (λ _ _. some_ending l ok es) in
-    as_code both (λ p. (one p.0, p.1)) (AreBehind l (kinds.One k) es) (behind_line (kinds.One k) es) (λ p h. (((h.0, refl), h.1), refl)) (one_from l k es)
-behind_code l ok (kinds.Two k j) es some =
+    as_code both (λ p. (one p.0, p.1)) (AreAfter l (kinds.One k) es) (after_line (kinds.One k) es) (λ p h. (((h.0, refl), h.1), refl)) (one_from l k es)
+after_code l ok (kinds.Two k j) es some =
     let last = then_code (name_code l ok j (stop_of es) some.1 (stop_low es)) (λ _ e. IsLastly l es e) (λ _ e. ending_line e) (λ _. ending_at l es) (λ _ _. ending_code l ok es) (λ _ _. some_ending l ok es) in
     let e = some_ending l ok es in
     let both = then_code (name_code l ok k 32 some.0 (omega arith)) (λ _ p. (p.0 < count_of l j) × IsLastly l es p.1) (λ _ p. name_line j (stop_of es) p.0 ++ ending_line p.1) _ (λ _ _. last) (λ _ _. ((0, e.0), (some.1, e.1))) in
-    as_code both (λ p. (two p.0 p.1.0, p.1.1)) (AreBehind l (kinds.Two k j) es) (behind_line (kinds.Two k j) es) (λ p h. ((((h.0, h.1.0), tt), h.1.1), refl))
+    as_code both (λ p. (two p.0 p.1.0, p.1.1)) (AreAfter l (kinds.Two k j) es) (after_line (kinds.Two k j) es) (λ p h. ((((h.0, h.1.0), tt), h.1.1), refl))
     (λ p h. ((p.0.first, (p.0.second, p.1)), (h.0.0.0, (h.0.0.1, h.1)), refl))
 
-some_behind : (l : Layout) → IsLawful l → (ks : Kinds) (es : Endings) → AreSome l ks → (p : Numbers × Ending) × AreBehind l ks es p
-some_behind l ok kinds.Nothing es some = let e = some_ending l ok es in ((none, e.0), ((tt, refl), e.1))
-some_behind l ok (kinds.One k) es some = let e = some_ending l ok es in ((none, e.0), ((some, refl), e.1))
-some_behind l ok (kinds.Two k j) es some = let e = some_ending l ok es in ((none, e.0), ((some, tt), e.1))
+some_after : (l : Layout) → IsLawful l → (ks : Kinds) (es : Endings) → AreSome l ks → (p : Numbers × Ending) × AreAfter l ks es p
+some_after l ok kinds.Nothing es some = let e = some_ending l ok es in ((none, e.0), ((tt, refl), e.1))
+some_after l ok (kinds.One k) es some = let e = some_ending l ok es in ((none, e.0), ((some, refl), e.1))
+some_after l ok (kinds.Two k j) es some = let e = some_ending l ok es in ((none, e.0), ((some, tt), e.1))
 
--- the word may stand in the version, with what is behind it
+-- the word may stand in the version, with what is after it
 abbrev AreWith : Layout → Word → Numbers × Ending → Type 0
-AreWith l w p = (is_in (since w) l.version ≡ true) × AreBehind l (kinds_of w) (endings_of w) p
+AreWith l w p = (is_in (since w) l.version ≡ true) × AreAfter l (kinds_of w) (endings_of w) p
 
 -- a lawful action as reading makes it
 abbrev pub IsRead : Layout → Action → Type 0
@@ -202,7 +202,7 @@ IsRead l a = IsNamed l a × IsMade a
 abbrev pub IsOf : Layout → Word → Action → Type 0
 IsOf l w a = ((row_of a).word ≡ w) × IsRead l a
 
-row_to : (l : Layout) (w : Word) (p : Numbers × Ending) → AreWith l w p → IsOf l w (made w p.0 p.1) × (text (made w p.0 p.1) ≡ word_text w ++ (gap_of (kinds_of w) (endings_of w) ∷ [] ++ behind_line (kinds_of w) (endings_of w) p))
+row_to : (l : Layout) (w : Word) (p : Numbers × Ending) → AreWith l w p → IsOf l w (made w p.0 p.1) × (text (made w p.0 p.1) ≡ word_text w ++ (gap_of (kinds_of w) (endings_of w) ∷ [] ++ after_line (kinds_of w) (endings_of w) p))
 row_to l w p (known, h) =
     let ends = is_ending l (endings_of w) p.1 h.1.0 in
     let back = row_back (row w p.0 p.1) (record { numbers = h.0.1; ending = ends }) in
@@ -230,13 +230,13 @@ row_code : (l : Layout) → IsLawful l → (w : Word) → IsCode (IsOf l w) text
 row_code l ok w =
     let ks = kinds_of w in
     let es = endings_of w in
-    let line : Numbers × Ending → List ℕ = λ p. word_text w ++ (gap_of ks es ∷ [] ++ behind_line ks es p) in
+    let line : Numbers × Ending → List ℕ = λ p. word_text w ++ (gap_of ks es ∷ [] ++ after_line ks es p) in
     let words = only_code (may_stand l w) (AreWith l w) line _
     (λ h.
     let both = both_true (is_in (since w) l.version) (are_some l ks) h in
     let some = are_some_from l ks both.1 in
-    let p = some_behind l ok ks es some in
-    same_code (word_code (word_code (behind_code l ok ks es some) (gap_of ks es ∷ []) p) (word_text w) p) (AreWith l w) line (λ p. refl) (λ p b. (both.0, b)) (λ p b. b.1))
+    let p = some_after l ok ks es some in
+    same_code (word_code (word_code (after_code l ok ks es some) (gap_of ks es ∷ []) p) (word_text w) p) (AreWith l w) line (λ p. refl) (λ p b. (both.0, b)) (λ p b. b.1))
     (λ h p b. none_lawful l ks p.0 (other_false (is_in (since w) l.version) (are_some l ks) h b.0) b.1.0.0) in
     as_code words (λ p. made w p.0 p.1) (IsOf l w) text (row_to l w) (row_from l w)
 

@@ -1,4 +1,4 @@
--- The text of an action by its row: the word and the byte behind it, the names, and the ending.
+-- The text of an action by its row: the word and the byte after it, the names, and the ending.
 use Rattle.std.proofs.Common.{◌≡◌, ◌⊎◌, ℕ, inl, inr, List, [], ◌∷◌, ◌++◌, refl, sym, ◌∙◌, append_assoc}
 use Rattle.std.specs.Prelude.{codes, decimal}
 use Rattle.larch_actions.specs.declared.event.Action.{Action}
@@ -23,7 +23,7 @@ use Rattle.trace_core.proofs.Members.{names_line_is}
 abbrev pub text : Action → List ℕ
 text a = action_text a ++ newline
 
--- the ending behind the byte that stops what is before it
+-- the ending after the byte that stops what is before it
 abbrev pub ending_line : Ending → List ℕ
 ending_line Nothing = []
 ending_line Returns = codes "returns" ++ newline
@@ -32,15 +32,15 @@ ending_line Yes = codes "yes" ++ newline
 ending_line No = codes "no" ++ newline
 ending_line (Left left) = codes "left" ++ names_line (members left)
 
--- a name behind its space, up to the byte that stops it
+-- a name after its space, up to the byte that stops it
 abbrev pub name_line : Kind → ℕ → ℕ → List ℕ
 name_line k stop n = letter k ∷ [] ++ (decimal n ++ stop ∷ [])
 
--- the names and the ending behind the byte that stops the word
-abbrev pub behind_line : Kinds → Endings → Numbers × Ending → List ℕ
-behind_line kinds.Nothing es p = ending_line p.1
-behind_line (kinds.One k) es p = name_line k (stop_of es) p.0.first ++ ending_line p.1
-behind_line (kinds.Two k j) es p = name_line k 32 p.0.first ++ (name_line j (stop_of es) p.0.second ++ ending_line p.1)
+-- the names and the ending after the byte that stops the word
+abbrev pub after_line : Kinds → Endings → Numbers × Ending → List ℕ
+after_line kinds.Nothing es p = ending_line p.1
+after_line (kinds.One k) es p = name_line k (stop_of es) p.0.first ++ ending_line p.1
+after_line (kinds.Two k j) es p = name_line k 32 p.0.first ++ (name_line j (stop_of es) p.0.second ++ ending_line p.1)
 
 pub neither : {A : Type 0} (e a b : Ending) → (e ≡ a → A) → (e ≡ b → A) → (e ≡ a) ⊎ (e ≡ b) → A
 neither e a b f g h = elim h [ inl k ↦ f k | inr k ↦ g k ]
@@ -62,7 +62,7 @@ name_is : (prefix d more : List ℕ) (c stop : ℕ) → ((prefix ++ (32 ∷ c �
 name_is prefix d more c stop = simp append_assoc
 
 -- a text with its names, its ending and a newline
-names_are : (ks : Kinds) (es : Endings) (prefix : List ℕ) (x : Numbers) (e : Ending) → IsEnding es e → with_ending (with_names prefix ks x) e ++ newline ≡ prefix ++ (gap_of ks es ∷ behind_line ks es (x, e))
+names_are : (ks : Kinds) (es : Endings) (prefix : List ℕ) (x : Numbers) (e : Ending) → IsEnding es e → with_ending (with_names prefix ks x) e ++ newline ≡ prefix ++ (gap_of ks es ∷ after_line ks es (x, e))
 names_are kinds.Nothing es prefix x e h = ending_is es prefix e h
 names_are (kinds.One k) es prefix x e h = ending_is es (with_name prefix k x.first) e h ∙ name_is prefix (decimal x.first) (ending_line e) (letter k) (stop_of es)
 names_are (kinds.Two k j) es prefix x e h =
@@ -74,7 +74,7 @@ names_are (kinds.Two k j) es prefix x e h =
 abbrev pub start_of : Word → List ℕ
 start_of w = word_text w ++ gap_of (kinds_of w) (endings_of w) ∷ []
 
-pub row_is : (w : Word) (x : Numbers) (e : Ending) → IsEnding (endings_of w) e → with_ending (with_names (word_text w) (kinds_of w) x) e ++ newline ≡ word_text w ++ (gap_of (kinds_of w) (endings_of w) ∷ behind_line (kinds_of w) (endings_of w) (x, e))
+pub row_is : (w : Word) (x : Numbers) (e : Ending) → IsEnding (endings_of w) e → with_ending (with_names (word_text w) (kinds_of w) x) e ++ newline ≡ word_text w ++ (gap_of (kinds_of w) (endings_of w) ∷ after_line (kinds_of w) (endings_of w) (x, e))
 row_is w x e h = names_are (kinds_of w) (endings_of w) (word_text w) x e h
 
 -- the text of an action begins with its word
@@ -82,5 +82,5 @@ pub begins_so : (a : Action) → (rest : List ℕ) × (text a ≡ start_of (row_
 begins_so a =
     let r = row_of a in
     let w = r.word in
-    let rest = behind_line (kinds_of w) (endings_of w) (r.numbers, r.ending) in
+    let rest = after_line (kinds_of w) (endings_of w) (r.numbers, r.ending) in
     (rest, row_is w r.numbers r.ending (is_row a).ending ∙ sym (append_assoc (word_text w) (gap_of (kinds_of w) (endings_of w) ∷ []) rest))

@@ -6,10 +6,10 @@ use Rattle.larch_actions.specs.declared.event.Action.{Action}
 use Rattle.larch_actions.specs.declared.rows.Word.{Word}
 use Rattle.exact_text.specs.declared.stop.Stop.TheVariants.{More, Dead}
 use Rattle.larch_actions.specs.Rows.{word_text, kinds_of, endings_of, made}
-use Rattle.trace_core.specs.Lines.{gap_of, behind_at, may_stand, row_at, rows_at}
+use Rattle.trace_core.specs.Lines.{gap_of, after_at, may_stand, row_at, rows_at}
 use Rattle.exact_text.specs.Reading.{Reader, or_else, word_at, after_word, as_value, only_if}
 
--- the words from a place on: the one there, and those behind it
+-- the words from a place on: the one there, and those after it
 from_here : (l : Layout) (ws : List Word) (i : ℕ) (d : Word) (bytes : List ℕ) → i < length ws → rows_at l (drop i ws) bytes ≡ or_else (row_at l (get_or ws i d) bytes) (rows_at l (drop (i + 1) ws) bytes)
 from_here l ws i d bytes low =
     let next : suc i ≡ i + 1 = omega arith in
@@ -37,4 +37,4 @@ not_it false f word bytes read e = refl
 -- another word stands there
 pub other_row : (l : Layout) (w : Word) (bytes : List ℕ) → word_at (word_text w) bytes ≡ Err Dead → row_at l w bytes ≡ Err Dead
 other_row l w bytes e =
-    not_it (may_stand l w) (λ p. made w p.0 p.1) (word_text w) bytes (after_word (gap_of (kinds_of w) (endings_of w) ∷ []) (behind_at l (kinds_of w) (endings_of w))) e
+    not_it (may_stand l w) (λ p. made w p.0 p.1) (word_text w) bytes (after_word (gap_of (kinds_of w) (endings_of w) ∷ []) (after_at l (kinds_of w) (endings_of w))) e

@@ -10,20 +10,20 @@ use Rattle.exact_text.specs.Reading.{Reader, word_at, as_value, ◌>>=◌}
 use Rattle.trace_core.specs.Names.{number_from, tail_at, onto}
 
 -- the set of the names seen and those to come
-abbrev pub set_behind : List ℕ → ℕ → ℕ → ℕ → Reader ThreadSet
-set_behind seen fuel least bound = as_value (λ ts. set_of (onto seen ts)) (tail_at fuel least bound)
+abbrev pub set_past : List ℕ → ℕ → ℕ → ℕ → Reader ThreadSet
+set_past seen fuel least bound = as_value (λ ts. set_of (onto seen ts)) (tail_at fuel least bound)
 
-pub tail-stops : (seen : List ℕ) (fuel least bound : ℕ) (bytes : List ℕ) (e : Stop) → least < bound → bound ≤ least + fuel → number_from true least bound bytes ≡ Err e → set_behind seen fuel least bound bytes ≡ Err e
+pub tail-stops : (seen : List ℕ) (fuel least bound : ℕ) (bytes : List ℕ) (e : Stop) → least < bound → bound ≤ least + fuel → number_from true least bound bytes ≡ Err e → set_past seen fuel least bound bytes ≡ Err e
 tail-stops seen zero least bound bytes e some fits h = absurd (omega arith)
 tail-stops seen (suc fuel) least bound bytes e some fits h = rw h refl
 
 pub tail-ends : (seen : List ℕ) (fuel least bound : ℕ) (bytes rest : List ℕ) (t c : ℕ) → least < bound → bound ≤ least + fuel → number_from true least bound bytes ≡ Ok ((t, c), rest) → c ≡ 10
-    → set_behind seen fuel least bound bytes ≡ Ok (set_of (t ∷ seen), rest)
+    → set_past seen fuel least bound bytes ≡ Ok (set_of (t ∷ seen), rest)
 tail-ends seen zero least bound bytes rest t c some fits h last = absurd (omega arith)
 tail-ends seen (suc fuel) least bound bytes rest t c some fits h last = rw (h, eq-eqb c 10 last) refl
 
 pub tail-breaks : (seen : List ℕ) (fuel least bound : ℕ) (bytes rest : List ℕ) (t c : ℕ) (e : Stop) → least < bound → bound ≤ least + fuel → number_from true least bound bytes ≡ Ok ((t, c), rest) → c ≢ 10
-    → word_at (codes "t") rest ≡ Err e → set_behind seen fuel least bound bytes ≡ Err e
+    → word_at (codes "t") rest ≡ Err e → set_past seen fuel least bound bytes ≡ Err e
 tail-breaks seen zero least bound bytes rest t c e some fits h more w = absurd (omega arith)
 tail-breaks seen (suc fuel) least bound bytes rest t c e some fits h more w = rw (h, ne_eqb c 10 more, w) refl
 
@@ -40,9 +40,9 @@ one_more : (r : Result (List ℕ × List ℕ) Stop) (t c : ℕ) (seen : List ℕ
 one_more (Ok x) t c seen = refl
 one_more (Err e) t c seen = refl
 
--- a name was read, and more come behind a space
+-- a name was read, and more come after a space
 pub tail-goes_on : (seen : List ℕ) (fuel least bound : ℕ) (bytes rest rest' : List ℕ) (t c : ℕ) → least < bound → bound ≤ least + fuel → number_from true least bound bytes ≡ Ok ((t, c), rest) → c ≢ 10
-    → word_at (codes "t") rest ≡ Ok rest' → set_behind (t ∷ seen) (fuel - 1) (t + 1) bound rest' ≡ set_behind seen fuel least bound bytes
+    → word_at (codes "t") rest ≡ Ok rest' → set_past (t ∷ seen) (fuel - 1) (t + 1) bound rest' ≡ set_past seen fuel least bound bytes
 tail-goes_on seen zero least bound bytes rest rest' t c some fits h more w = absurd (omega arith)
 tail-goes_on seen (suc fuel) least bound bytes rest rest' t c some fits h more w =
     let one : suc fuel - 1 ≡ fuel = omega arith in

@@ -1,4 +1,4 @@
--- The rest of a trace text is a line, and the rest behind it.
+-- The rest of a trace text is a line, and the rest after it.
 use Rattle.std.proofs.Common.{◌≡◌, ℕ, ◌+◌, ◌^◌, ◌<◌, ◌≤◌, List, [], ◌∷◌, ◌++◌, refl, ap, sym, ◌∙◌, append_assoc, append-nil, true, arith, rules, tests}
 use Rattle.std.specs.Prelude.{codes, decimal, nat_lt}
 use Rattle.larch_actions.specs.declared.event.Version.{Version}
@@ -25,7 +25,7 @@ use Rattle.trace_core.specs.declared.line.Expect.{Expect}
 use Rattle.trace_core.specs.declared.line.Expect.TheVariants as expect
 use Rattle.trace_core.specs.Names.{IsRising}
 use Rattle.trace_core.specs.Text.{action_text, names_text, with_name, with_names, with_ending, members, first_line, layout_line, event_line, end_line, value_line, values_text, rest_text, IsRest, IsLaid, IsTrace}
-use Rattle.trace_core.specs.Lines.{line_text, IsPossible, IsAllowed, IsSomeValues, IsTextFrom, IsTextBehind}
+use Rattle.trace_core.specs.Lines.{line_text, IsPossible, IsAllowed, IsSomeValues, IsTextFrom, IsTextAfter}
 use Rattle.exact_text.proofs.Flat.{is_flat, flat_from, flat_decimal}
 use Rattle.exact_text.specs.Prefixes.{IsFlat, IsLine}
 use Rattle.exact_text.proofs.Grammar.{IsFlat-append}
@@ -41,7 +41,7 @@ flat_named : (prefix word : List ℕ) (n : ℕ) → IsFlat prefix → is_flat wo
 flat_named prefix word n p w fits =
     IsFlat-append (prefix ++ word) (decimal n) (IsFlat-append prefix word p (flat_from word w)) (flat_decimal n fits)
 
--- more behind it that has no newline
+-- more after it that has no newline
 flat_word : (prefix word : List ℕ) → IsFlat prefix → is_flat word ≡ true → IsFlat (prefix ++ word)
 flat_word prefix word p w = IsFlat-append prefix word p (flat_from word w)
 
@@ -100,7 +100,7 @@ event_is_line l n e ok fits h = (
 end_is_line : (n : ℕ) → n < 2 ^ 64 → IsLine (end_line n)
 end_is_line n fits = (codes "end " ++ decimal n, flat_named [] (codes "end ") n tt refl fits, refl)
 
--- a word that has no newline, a number, and what is behind them
+-- a word that has no newline, a number, and what is after them
 flat_count : (word : List ℕ) (n : ℕ) (rest : List ℕ) → is_flat word ≡ true → n < 2 ^ 64 → IsFlat rest → IsFlat (word ++ (decimal n ++ rest))
 flat_count word n rest w fits p = IsFlat-append word (decimal n ++ rest) (flat_from word w) (IsFlat-append (decimal n) rest (flat_decimal n fits) p)
 
@@ -127,41 +127,41 @@ rest_at_end : (l : Layout) (n : ℕ) → n < 2 ^ 64 → IsRest l n (end_line n)
 rest_at_end l n fits = ([], [], tt, omega arith, tt, sym (append-nil (end_line n)))
 
 rest_opens : (l : Layout) → IsLawful l → (n : ℕ) (bytes : List ℕ) → IsRest l n bytes
-    → (x : Line) × (rest : List ℕ) × IsAllowed (expect.Events l n) x × IsTextBehind (expect.Events l n) x rest × (bytes ≡ line_text (expect.Events l n) x ++ rest)
+    → (x : Line) × (rest : List ℕ) × IsAllowed (expect.Events l n) x × IsTextAfter (expect.Events l n) x rest × (bytes ≡ line_text (expect.Events l n) x ++ rest)
 rest_opens l ok n bytes ([], vs, named, few, valued, e) = (line.End, values_text vs, tt, (vs, valued, refl), e)
 rest_opens l ok n bytes (e ∷ es, vs, named, few, valued, eq) =
     let rest = rest_text (n + 1) es vs in
     (line.Event (plain_event e), rest, plain_is_read l ok e named.0, (es, vs, named.1, omega arith, valued, refl), eq ∙ ap (λ t. t ++ rest) (sym (plain_line l ok n e named.0)))
 
-rest_closes : (l : Layout) (n : ℕ) → n < 2 ^ 64 → (x : Line) (rest : List ℕ) → IsAllowed (expect.Events l n) x → IsTextBehind (expect.Events l n) x rest → IsRest l n (line_text (expect.Events l n) x ++ rest)
+rest_closes : (l : Layout) (n : ℕ) → n < 2 ^ 64 → (x : Line) (rest : List ℕ) → IsAllowed (expect.Events l n) x → IsTextAfter (expect.Events l n) x rest → IsRest l n (line_text (expect.Events l n) x ++ rest)
 rest_closes l n fits (line.Event e) rest h r = (e ∷ r.0, r.1, (h.0, r.2), omega (arith, r.3), r.4, ap (λ b. event_line n e ++ b) r.5)
 rest_closes l n fits line.End rest h r = ([], r.0, tt, omega arith, r.1, ap (λ b. end_line n ++ b) r.2)
 rest_closes l n fits _ rest h r = absurd h
 
-trace_opens : (bytes : List ℕ) → IsTrace bytes → (x : Line) × (rest : List ℕ) × IsAllowed expect.Head x × IsTextBehind expect.Head x rest × (bytes ≡ line_text expect.Head x ++ rest)
+trace_opens : (bytes : List ℕ) → IsTrace bytes → (x : Line) × (rest : List ℕ) × IsAllowed expect.Head x × IsTextAfter expect.Head x rest × (bytes ≡ line_text expect.Head x ++ rest)
 trace_opens bytes (l, es, vs, r) =
     let rest = rest_text 0 es vs in
     (line.Head l.version, layout_line l ++ rest, tt, (l, rest, (r.lawful, refl), (es, vs, r.named, omega (arith, r.few), r.valued, refl), refl), r.text ∙ append_assoc (first_line l.version) (layout_line l) rest)
 
-trace_closes : (x : Line) (rest : List ℕ) → IsAllowed expect.Head x → IsTextBehind expect.Head x rest → IsTrace (line_text expect.Head x ++ rest)
+trace_closes : (x : Line) (rest : List ℕ) → IsAllowed expect.Head x → IsTextAfter expect.Head x rest → IsTrace (line_text expect.Head x ++ rest)
 trace_closes (line.Head v) rest h (l, after, ok, (es, vs, named, few, valued, e), eq) =
     let laid = layout_line l ++ rest_text 0 es vs in
     let text = ap (λ b. first_line v ++ b) (eq ∙ ap (λ b. layout_line l ++ b) e) ∙ ap (λ u. first_line u ++ laid) (sym ok.1) ∙ sym (append_assoc (first_line l.version) (layout_line l) (rest_text 0 es vs)) in
     (l, es, vs, record { lawful = ok.0; named = named; few = omega arith; valued = valued; text = text })
 trace_closes _ rest h r = absurd h
 
-laid_opens : (v : Version) (bytes : List ℕ) → IsLaid v bytes → (x : Line) × (rest : List ℕ) × IsAllowed (expect.Counts v) x × IsTextBehind (expect.Counts v) x rest × (bytes ≡ line_text (expect.Counts v) x ++ rest)
+laid_opens : (v : Version) (bytes : List ℕ) → IsLaid v bytes → (x : Line) × (rest : List ℕ) × IsAllowed (expect.Counts v) x × IsTextAfter (expect.Counts v) x rest × (bytes ≡ line_text (expect.Counts v) x ++ rest)
 laid_opens v bytes (l, rest, ok, r, e) = (line.Counts l, rest, ok, r, e)
 
-laid_closes : (v : Version) (x : Line) (rest : List ℕ) → IsAllowed (expect.Counts v) x → IsTextBehind (expect.Counts v) x rest → IsLaid v (line_text (expect.Counts v) x ++ rest)
+laid_closes : (v : Version) (x : Line) (rest : List ℕ) → IsAllowed (expect.Counts v) x → IsTextAfter (expect.Counts v) x rest → IsLaid v (line_text (expect.Counts v) x ++ rest)
 laid_closes v (line.Counts l) rest h r = (l, rest, h, r, refl)
 laid_closes v _ rest h r = absurd h
 
 values_open : (l : Layout) (least : ℕ) (bytes : List ℕ) → IsSomeValues l least bytes
-    → (x : Line) × (rest : List ℕ) × IsAllowed (expect.Values l least) x × IsTextBehind (expect.Values l least) x rest × (bytes ≡ line_text (expect.Values l least) x ++ rest)
+    → (x : Line) × (rest : List ℕ) × IsAllowed (expect.Values l least) x × IsTextAfter (expect.Values l least) x rest × (bytes ≡ line_text (expect.Values l least) x ++ rest)
 values_open l least bytes (v, vs, h, e) = (line.Value v.mutex v.value, values_text vs, (h.0, h.1, h.2), (vs, h.3, refl), e)
 
-values_close : (l : Layout) (least : ℕ) (x : Line) (rest : List ℕ) → IsAllowed (expect.Values l least) x → IsTextBehind (expect.Values l least) x rest → IsSomeValues l least (line_text (expect.Values l least) x ++ rest)
+values_close : (l : Layout) (least : ℕ) (x : Line) (rest : List ℕ) → IsAllowed (expect.Values l least) x → IsTextAfter (expect.Values l least) x rest → IsSomeValues l least (line_text (expect.Values l least) x ++ rest)
 values_close l least (line.Value k v) rest h r = (record { mutex = k; value = v }, r.0, (h.0, h.1, h.2, r.1), ap (λ b. value_line (record { mutex = k; value = v }) ++ b) r.2)
 values_close l least _ rest h r = absurd h
 
@@ -180,7 +180,7 @@ one_version : (v : Version) → (one_thread v).version ≡ v
 unfolding one_thread
 one_version v = refl
 
-goes_on : (x : Expect) → IsPossible x → (y : Line) → IsAllowed x y → (rest : List ℕ) × IsTextBehind x y rest
+goes_on : (x : Expect) → IsPossible x → (y : Line) → IsAllowed x y → (rest : List ℕ) × IsTextAfter x y rest
 goes_on expect.Head ok (line.Head v) h = let l = one_thread v in (layout_line l ++ end_line 0, (l, end_line 0, (one_thread_is v, one_version v), rest_at_end l 0 (omega arith), refl))
 goes_on expect.Head ok _ h = absurd h
 goes_on (expect.Counts v) ok (line.Counts l) h = (end_line 0, rest_at_end l 0 (omega arith))
@@ -205,7 +205,7 @@ is_line (expect.Values l least) ok _ h = absurd h
 some_value : (l : Layout) (least : ℕ) → least < l.mutexes → (x : Line) × IsAllowed (expect.Values l least) x
 some_value l least some = (line.Value least 0, (omega arith, some, omega arith))
 
-pub line_grammar : (x : Expect) → IsPossible x → Unfolds (IsTextFrom x) (IsAllowed x) (line_text x) (IsTextBehind x)
+pub line_grammar : (x : Expect) → IsPossible x → Unfolds (IsTextFrom x) (IsAllowed x) (line_text x) (IsTextAfter x)
 line_grammar expect.Head ok = record {
   opens = trace_opens;
   closes = trace_closes;

@@ -144,11 +144,11 @@ both_names m c stop p q r = stands_as (names_are (decimal m) (decimal c) stop) (
 wait_is : (word d e stop : List ℕ) → word ++ ((d ++ codes " c") ++ (e ++ stop)) ≡ (word ++ d ++ codes " c" ++ e) ++ stop
 wait_is word d e stop = simp append_assoc
 
--- the names of a mutex and a condition behind a word
+-- the names of a mutex and a condition after a word
 pub after_wait : {l : Layout} {bytes stop : List ℕ} {a k : ℕ} {x : UsualWait} (word : List ℕ) → Stands bytes a word k → IsWaitAt l bytes k stop x → Stands bytes a ((word ++ decimal x.mutex.0 ++ codes " c" ++ decimal x.cond.0) ++ stop) x.end
 after_wait {stop = stop} {x = x} word p w = stands_as (wait_is word (decimal x.mutex.0) (decimal x.cond.0) stop) (stands_then p w.text)
 
--- how an alertable call ended, behind what stands before it
+-- how an alertable call ended, after what stands before it
 ended_is : (prefix : List ℕ) → (prefix ++ 32 ∷ []) ++ (codes "returns" ++ newline) ≡ (prefix ++ codes " returns") ++ newline
 ended_is prefix = simp append_assoc
 
@@ -161,7 +161,7 @@ raised_is prefix = simp append_assoc
 pub raised : {bytes : List ℕ} {a k : ℕ} {x : UsualEnding} (prefix : List ℕ) → Stands bytes a (prefix ++ 32 ∷ []) k → IsEndingAt bytes k x → x.returns ≡ false → Stands bytes a ((prefix ++ codes " raises") ++ newline) x.end
 raised prefix p e is = stands_as (ap (λ r. (prefix ++ 32 ∷ []) ++ ending_text r) is ∙ raised_is prefix) (stands_then p e.text)
 
--- a name behind a word
+-- a name after a word
 pub after_name : {bytes stop : List ℕ} {a k : ℕ} {bound : ℕ} {x : UsualName} (word : List ℕ) → Stands bytes a word k → IsNameAt bytes k bound stop x → Stands bytes a ((word ++ decimal x.value) ++ stop) x.end
 after_name {stop = stop} {x = x} word p n = stands_as (sym (append_assoc word (decimal x.value) stop)) (stands_then p n.text)
 

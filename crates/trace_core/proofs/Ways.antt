@@ -12,7 +12,7 @@ flat : {A B C : Type 0} (r : Result A Stop) (f : A → Result B Stop) (g : B →
 flat (Ok x) f g = refl
 flat (Err s) f g = refl
 
--- the counts behind that of the threads, each read as a name
+-- the counts after that of the threads, each read as a name
 abbrev last_names : Reader (ℕ × (ℕ × ℕ))
 last_names = both (named_at (codes "mutexes ") 65 32) (λ _. both (named_at (codes "conditions ") 65 32) (λ _. named_at (codes "semaphores ") 65 10))
 

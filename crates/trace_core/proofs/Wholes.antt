@@ -16,8 +16,8 @@ use Rattle.trace_core.specs.Whole.{event_lines, numbered, Flows}
 prefix_more : (a b : Option (List ℕ)) (p q : List ℕ) → AppendsPrefix a b p → AppendsPrefix a b (p ++ q)
 prefix_more a b p q f = (f.0, omega (arith, f.1, length-append p q), subst (Appends a b) (sym (take-append-le f.0 p q (omega (arith, f.1)))) f.2)
 
-prefix_behind : (a b c : Option (List ℕ)) (s p : List ℕ) → Appends a b s → AppendsPrefix b c p → AppendsPrefix a c (s ++ p)
-prefix_behind a b c s p e f =
+prefix_past : (a b c : Option (List ℕ)) (s p : List ℕ) → Appends a b s → AppendsPrefix b c p → AppendsPrefix a c (s ++ p)
+prefix_past a b c s p e f =
     (length s + f.0, omega (arith, f.1, length-append s p), subst (Appends a c) (sym (take-append-add s p f.0)) (Appends-trans a b c s (take f.0 p) e f.2))
 
 rest_parts : (n : ℕ) (es : List Event) (vs : List MutexValue) → event_lines n es ++ (end_line (n + length es) ++ values_text vs) ≡ rest_text n es vs
@@ -49,12 +49,12 @@ events_fault l es vs h0 h1 first is f =
 pub values_fault : (l : Layout) (es : List Event) (vs : List MutexValue) (h0 h1 h2 : Option (List ℕ)) (first mid : List ℕ) → first ≡ head_text l → Flows h0 h1 first mid (lines es) → AppendsPrefix h1 h2 (mid ++ values_text vs) → AppendsPrefix h0 h2 (trace_text l es vs)
 values_fault l es vs h0 h1 h2 first mid is f a =
     let same : f.0 ++ (mid ++ values_text vs) ≡ trace_text l es vs = flowed first mid (lines es) (values_text vs) h0 h1 f ∙ ap (λ x. (x ++ lines es) ++ values_text vs) is ∙ whole_text l es vs in
-    subst (AppendsPrefix h0 h2) same (prefix_behind h0 h1 h2 f.0 (mid ++ values_text vs) f.1 a)
+    subst (AppendsPrefix h0 h2) same (prefix_past h0 h1 h2 f.0 (mid ++ values_text vs) f.1 a)
 
 pub last_fault : (l : Layout) (es : List Event) (vs : List MutexValue) (h0 h1 h2 h3 : Option (List ℕ)) (first mid last : List ℕ) → first ≡ head_text l → Flows h0 h1 first mid (lines es) → Flows h1 h2 mid last (values_text vs) → AppendsPrefix h2 h3 last → AppendsPrefix h0 h3 (trace_text l es vs)
 last_fault l es vs h0 h1 h2 h3 first mid last is f k a =
     let same : f.0 ++ (k.0 ++ last) ≡ trace_text l es vs = ap (λ x. f.0 ++ x) k.2 ∙ flowed first mid (lines es) (values_text vs) h0 h1 f ∙ ap (λ x. (x ++ lines es) ++ values_text vs) is ∙ whole_text l es vs in
-    subst (AppendsPrefix h0 h3) same (prefix_behind h0 h1 h3 f.0 (k.0 ++ last) f.1 (prefix_behind h1 h2 h3 k.0 last k.1 a))
+    subst (AppendsPrefix h0 h3) same (prefix_past h0 h1 h3 f.0 (k.0 ++ last) f.1 (prefix_past h1 h2 h3 k.0 last k.1 a))
 
 numbered_are : (l : Layout) (k : ℕ) (vs : List ℕ) → k + length vs ≤ l.mutexes → ((i : ℕ) → get_or vs i 0 < 2 ^ 64) → AreValues l k (numbered k vs)
 numbered_are l k [] few fits = tt

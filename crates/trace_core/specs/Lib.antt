@@ -6,7 +6,7 @@ pub mod Readable
 pub mod Usual
 pub mod Spelled
 pub mod Lacking
-pub mod Standing
+pub mod ReaderState
 pub mod Steps
 pub mod Reader
 pub mod Whole

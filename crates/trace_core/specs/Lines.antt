@@ -61,10 +61,10 @@ abbrev pub name_at : Layout → Kind → ℕ → Reader ℕ
 name_at l k stop = after_word (letter k ∷ []) (number_at 0 (count_of l k) stop)
 
 -- the names and the ending
-abbrev pub behind_at : Layout → Kinds → Endings → Reader (Numbers × Ending)
-behind_at l kinds.Nothing es = as_value (λ e. (none, e)) (ending_at l es)
-behind_at l (kinds.One k) es = as_value (λ p. (one p.0, p.1)) (both (name_at l k (stop_of es)) (λ _. ending_at l es))
-behind_at l (kinds.Two k j) es =
+abbrev pub after_at : Layout → Kinds → Endings → Reader (Numbers × Ending)
+after_at l kinds.Nothing es = as_value (λ e. (none, e)) (ending_at l es)
+after_at l (kinds.One k) es = as_value (λ p. (one p.0, p.1)) (both (name_at l k (stop_of es)) (λ _. ending_at l es))
+after_at l (kinds.Two k j) es =
     as_value (λ p. (two p.0 p.1.0, p.1.1)) (both (name_at l k 32) (λ _. both (name_at l j (stop_of es)) (λ _. ending_at l es)))
 
 -- there are things of each kind
@@ -87,7 +87,7 @@ may_stand l w = is_in (since w) l.version && are_some l (kinds_of w)
 abbrev pub row_at : Layout → Word → Reader Action
 row_at l w =
     as_value (λ p. made w p.0 p.1) (only_if (may_stand l w) (after_word (word_text w)
-    (after_word (gap_of (kinds_of w) (endings_of w) ∷ []) (behind_at l (kinds_of w) (endings_of w)))))
+    (after_word (gap_of (kinds_of w) (endings_of w) ∷ []) (after_at l (kinds_of w) (endings_of w)))))
 
 -- an action with one of these words
 abbrev pub rows_at : Layout → List Word → Reader Action
@@ -186,10 +186,10 @@ IsTextFrom (expect.Events l n) bytes = IsRest l n bytes
 IsTextFrom (expect.Values l least) bytes = IsSomeValues l least bytes
 
 -- after this line, the bytes are the rest of a trace text
-abbrev pub IsTextBehind : Expect → Line → List ℕ → Type 0
-IsTextBehind expect.Head (line.Head v) bytes = IsLaid v bytes
-IsTextBehind (expect.Counts v) (line.Counts l) bytes = IsRest l 0 bytes
-IsTextBehind (expect.Events l n) (line.Event e) bytes = IsRest l (n + 1) bytes
-IsTextBehind (expect.Events l n) line.End bytes = IsValues l 0 bytes
-IsTextBehind (expect.Values l least) (line.Value k v) bytes = IsValues l (k + 1) bytes
-IsTextBehind _ _ bytes = ⊥
+abbrev pub IsTextAfter : Expect → Line → List ℕ → Type 0
+IsTextAfter expect.Head (line.Head v) bytes = IsLaid v bytes
+IsTextAfter (expect.Counts v) (line.Counts l) bytes = IsRest l 0 bytes
+IsTextAfter (expect.Events l n) (line.Event e) bytes = IsRest l (n + 1) bytes
+IsTextAfter (expect.Events l n) line.End bytes = IsValues l 0 bytes
+IsTextAfter (expect.Values l least) (line.Value k v) bytes = IsValues l (k + 1) bytes
+IsTextAfter _ _ bytes = ⊥

@@ -4,7 +4,7 @@ use Rattle.std.specs.Borrow.{MutBor}
 use Rattle.std.specs.declared.option.Option.{Option}
 use Rattle.trace_core.specs.declared.reader.EventReader.{EventReader}
 use Rattle.trace_core.specs.declared.reader_state.Phase.TheVariants as phase
-use Rattle.trace_core.specs.Standing.{Standing, standing_of}
+use Rattle.trace_core.specs.ReaderState.{ReaderState, reader_state_of}
 
 -- the source that is read from
 abbrev pub input_of : {I : Type 0} → EventReader I → MutBor I
@@ -15,8 +15,8 @@ abbrev pub held_of : {I : Type 0} → EventReader I → List ℕ
 held_of r = r.progress.intake.window
 
 -- where the reader is, given what the source shows
-abbrev pub standing : {I : Type 0} → (I → Option (List ℕ)) → EventReader I → Standing
-standing left r = standing_of r.progress (left r.input.now)
+abbrev pub standing : {I : Type 0} → (I → Option (List ℕ)) → EventReader I → ReaderState
+standing left r = reader_state_of r.progress (left r.input.now)
 
 -- nothing of the input was read yet
 pub record IsFresh {I : Type 0} (left : I → Option (List ℕ)) (r : EventReader I) (input : MutBor I) (budget : ℕ) : Type 0 where

@@ -15,17 +15,17 @@ use Rattle.exact_text.specs.Exact.{HasReason, bytes_room}
 use Rattle.trace_core.specs.Lacking.{LacksAt, IsUndecided}
 use Rattle.trace_core.specs.Lines.{line_at}
 use Rattle.trace_core.specs.Made.{IsMade}
-use Rattle.trace_core.specs.Standing.{Standing}
+use Rattle.trace_core.specs.ReaderState.{ReaderState}
 use Rattle.trace_core.specs.Text.{MutexValue, AreValues, IsRest, head_text, event_line, end_line, values_text}
 
 -- the bytes of the text were read
-pub record Passes (old new : Standing) (text : List ℕ) (count : ℕ) : Type 0 where
+pub record Passes (old new : ReaderState) (text : List ℕ) (count : ℕ) : Type 0 where
   pub bytes : Consumes old.rest new.rest text
   pub room : new.room + length text ≡ old.room
   pub lines : new.lines ≡ old.lines + count
 
 -- the head of the text with this layout was read, and events come next
-pub record TakesHead (old new : Standing) (l : Layout) : Type 0 where
+pub record TakesHead (old new : ReaderState) (l : Layout) : Type 0 where
   pub lawful : IsLawful l
   pub passes : Passes old new (head_text l) 2
   pub phase : new.phase ≡ phase.Events
@@ -33,7 +33,7 @@ pub record TakesHead (old new : Standing) (l : Layout) : Type 0 where
   pub place : new.place ≡ 0
 
 -- the line of the event in its place was read
-pub record TakesEvent (old new : Standing) (event : Event) : Type 0 where
+pub record TakesEvent (old new : ReaderState) (event : Event) : Type 0 where
   pub names : HasNames old.layout event
   pub made : IsMade event.action
   pub passes : Passes old new (event_line old.place event) 1
@@ -56,19 +56,19 @@ abbrev pub IsEnding : Layout → ℕ → List ℕ → Type 0
 IsEnding l n bytes = (vs : List MutexValue) × AreValues l 0 vs × (bytes ≡ end_line n ++ values_text vs)
 
 -- the end line, the value lines and the end of the input were read, within what may be read
-pub record TakesEnd (old new : Standing) : Type 0 where
+pub record TakesEnd (old new : ReaderState) : Type 0 where
   pub whole : IfSome old.rest (λ bytes. IsEnding old.layout old.place bytes × (length bytes ≤ old.room))
   pub phase : new.phase ≡ phase.Ended
 
 -- The fault has its reason, and stays. None of the texts of the lawful values was there to be given.
-pub record Breaks {X : Type 0} (Text : List ℕ → Type 0) (lawful : X → Type 0) (text : X → List ℕ) (old new : Standing)
+pub record Breaks {X : Type 0} (Text : List ℕ → Type 0) (lawful : X → Type 0) (text : X → List ℕ) (old new : ReaderState)
     (left' : Option (List ℕ)) (before now : ℕ) (fault : TextFault) : Type 0 where
   pub reason : HasReason Text (bytes_room old.room) old.lines old.rest left' before now fault
   pub lacks : LacksAt lawful text old.room old.rest left' fault
   pub phase : new.phase ≡ phase.Failed fault
 
 -- among the events the one in its place was read, or the end, or there is a fault
-abbrev pub GoesOn : Standing → Standing → Option (List ℕ) → ℕ → ℕ → Result (Option Event) TextFault → Type 0
+abbrev pub GoesOn : ReaderState → ReaderState → Option (List ℕ) → ℕ → ℕ → Result (Option Event) TextFault → Type 0
 GoesOn old new left' before now (Ok (Some event)) = TakesEvent old new event
 GoesOn old new left' before now (Ok None) = TakesEnd old new
 GoesOn old new left' before now (Err fault) =

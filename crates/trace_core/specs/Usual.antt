@@ -21,15 +21,15 @@ little [] = 0
 little (b ∷ bytes) = b + 256 * little bytes
 
 -- a name below the bound stands there, with this text after it
-pub record IsNameAt (bytes : List ℕ) (start bound : ℕ) (behind : List ℕ) (name : UsualName) : Type 0 where
+pub record IsNameAt (bytes : List ℕ) (start bound : ℕ) (following : List ℕ) (name : UsualName) : Type 0 where
   pub below : name.value < bound
-  pub text : Stands bytes start (decimal name.value ++ behind) name.end
+  pub text : Stands bytes start (decimal name.value ++ following) name.end
 
 -- the names of a mutex and a condition stand there, with this text after them
-pub record IsWaitAt (l : Layout) (bytes : List ℕ) (start : ℕ) (behind : List ℕ) (x : UsualWait) : Type 0 where
+pub record IsWaitAt (l : Layout) (bytes : List ℕ) (start : ℕ) (following : List ℕ) (x : UsualWait) : Type 0 where
   pub mutex : x.mutex.0 < l.mutexes
   pub cond : x.cond.0 < l.conditions
-  pub text : Stands bytes start ((decimal x.mutex.0 ++ codes " c") ++ (decimal x.cond.0 ++ behind)) x.end
+  pub text : Stands bytes start ((decimal x.mutex.0 ++ codes " c") ++ (decimal x.cond.0 ++ following)) x.end
 
 -- how an alertable call ended stands there
 abbrev pub ending_text : Bool → List ℕ

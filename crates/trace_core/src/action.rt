@@ -3,7 +3,7 @@ ghost use Rattle.std.specs.Prelude.{◌≡◌, ◌<◌, true, Err};
 ghost use Rattle.larch_actions.specs.Rows.{word_text};
 ghost use Rattle.larch_actions.specs.Layout.{IsLawful};
 ghost use Rattle.exact_text.specs.Reading.{Gives, word_at};
-ghost use Rattle.trace_core.specs.Lines.{stop_of, gap_of, are_some, is_in, may_stand, ending_at, name_at, behind_at, row_at, action_at};
+ghost use Rattle.trace_core.specs.Lines.{stop_of, gap_of, are_some, is_in, may_stand, ending_at, name_at, after_at, row_at, action_at};
 
 use crate::names::names;
 use exact_text::{Stop, flag, number, word};
@@ -122,14 +122,14 @@ fn name<'b>(bytes: &'b [u8], layout: &Layout, kind: Kind, stop: u8) -> Result<(u
 }
 
 // Reads one name and the ending.
-fn behind_one<'b>(
+fn after_one<'b>(
     bytes: &'b [u8],
     layout: &Layout,
     kind: Kind,
     endings: Endings,
 ) -> Result<Parts<'b>, Stop>
     requires { IsLawful layout.now }
-    ensures { Gives (λ x. ((x.numbers, x.ending), x.rest.now)) result (behind_at layout.now (Kinds.One kind) endings bytes.now) }
+    ensures { Gives (λ x. ((x.numbers, x.ending), x.rest.now)) result (after_at layout.now (Kinds.One kind) endings bytes.now) }
 {
     let (first, rest) = match name(bytes, layout, kind, stop(endings)) {
         Ok(read) => read,
@@ -147,7 +147,7 @@ fn behind_one<'b>(
 }
 
 // Reads two names and the ending.
-fn behind_two<'b>(
+fn after_two<'b>(
     bytes: &'b [u8],
     layout: &Layout,
     kinds: (Kind, Kind),
@@ -155,13 +155,13 @@ fn behind_two<'b>(
 ) -> Result<Parts<'b>, Stop>
     requires { IsLawful layout.now }
     ensures { Gives (λ x. ((x.numbers, x.ending), x.rest.now)) result
-        (behind_at layout.now (Kinds.Two kinds.0 kinds.1) endings bytes.now) }
+        (after_at layout.now (Kinds.Two kinds.0 kinds.1) endings bytes.now) }
 {
     let (first, rest) = match name(bytes, layout, kinds.0, b' ') {
         Ok(read) => read,
         Err(stop) => return Err(stop),
     };
-    match behind_one(rest, layout, kinds.1, endings) {
+    match after_one(rest, layout, kinds.1, endings) {
         Ok(more) => Ok(Parts {
             numbers: Numbers {
                 first,
@@ -175,14 +175,14 @@ fn behind_two<'b>(
 }
 
 // Reads the names and the ending.
-fn behind<'b>(
+fn following<'b>(
     bytes: &'b [u8],
     layout: &Layout,
     kinds: Kinds,
     endings: Endings,
 ) -> Result<Parts<'b>, Stop>
     requires { IsLawful layout.now }
-    ensures { Gives (λ x. ((x.numbers, x.ending), x.rest.now)) result (behind_at layout.now kinds endings bytes.now) }
+    ensures { Gives (λ x. ((x.numbers, x.ending), x.rest.now)) result (after_at layout.now kinds endings bytes.now) }
 {
     match kinds {
         Kinds::Nothing => match ending(bytes, layout, endings) {
@@ -196,8 +196,8 @@ fn behind<'b>(
             }),
             Err(stop) => Err(stop),
         },
-        Kinds::One(kind) => behind_one(bytes, layout, kind, endings),
-        Kinds::Two(kind, other) => behind_two(bytes, layout, (kind, other), endings),
+        Kinds::One(kind) => after_one(bytes, layout, kind, endings),
+        Kinds::Two(kind, other) => after_two(bytes, layout, (kind, other), endings),
     }
 }
 
@@ -233,7 +233,7 @@ fn row<'b>(bytes: &'b [u8], layout: &Layout, first: Word) -> Result<(Action, &'b
         Ok(rest) => rest,
         Err(stop) => return Err(stop),
     };
-    match behind(rest, layout, kinds, endings) {
+    match following(rest, layout, kinds, endings) {
         Ok(
             Parts {
                 numbers,

@@ -3,7 +3,7 @@ ghost use Rattle.std.specs.Prelude.{◌≡◌, ◌⊎◌, ◌+◌, length, IfOk,
 ghost use Rattle.std.specs.Io.KnownBytes.{Consumes};
 ghost use Rattle.trace_core.specs.Lines.{IsPossible, IsAllowed, IsTextFrom, line_text, line_at};
 ghost use Rattle.exact_text.specs.Exact.{HasReason, bytes_room};
-ghost use Rattle.exact_text.specs.Intake.{rest_of, room_of, IsTold};
+ghost use Rattle.exact_text.specs.Intake.{rest_of, room_of, IsReported};
 ghost use Rattle.trace_core.specs.Lacking.{LacksAt};
 
 use crate::line::{Expect, Line, line_of};
@@ -50,7 +50,7 @@ pub fn take_line<I: Source>(
         (rest_of intake.old (I.left input.old)) (I.left input.new) (I.faults input.old) (I.faults input.new)) }
     ensures lacks { IfErr result (LacksAt (IsAllowed expect.now) (line_text expect.now) (room_of intake.old)
         (rest_of intake.old (I.left input.old)) (I.left input.new)) }
-    ensures told { IsTold (I.faults input.old) (I.faults input.new) result }
+    ensures reported { IsReported (I.faults input.old) (I.faults input.new) result }
     // The source is asked only where the bytes held don't decide.
     ensures asks { IfOk result (λ x. ((input.new ≡ input.old) × (line_at expect.now intake.old.window ≡ Ok (x, intake.new.window)))
         ⊎ (line_at expect.now intake.old.window ≡ Err Stop.More)) }

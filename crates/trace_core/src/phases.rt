@@ -4,9 +4,9 @@ ghost use Rattle.trace_core.specs.declared.reader_state.Phase.TheVariants as pha
 ghost use Rattle.trace_core.specs.Text.{IsTrace, head_text};
 ghost use Rattle.larch_actions.specs.Layout.{IsLawful};
 ghost use Rattle.trace_core.specs.Usual.{IsEventAt};
-ghost use Rattle.exact_text.specs.Intake.{IsTold};
+ghost use Rattle.exact_text.specs.Intake.{IsReported};
 ghost use Rattle.trace_core.specs.Lacking.{IsUndecided};
-ghost use Rattle.trace_core.specs.Standing.{standing_of};
+ghost use Rattle.trace_core.specs.ReaderState.{reader_state_of};
 ghost use Rattle.trace_core.specs.Steps.{TakesHead, Breaks, GoesOn, IsEventOpen, IsTaken};
 
 use crate::place::Place;
@@ -19,10 +19,10 @@ use larch_actions::{Event, Layout};
 
 /// Takes the head, and notes what comes next.
 pub fn begin<I: Source>(progress: &mut Progress, input: &mut I) -> Result<Layout, TextFault>
-    ensures head { IfOk result (TakesHead (standing_of progress.old (I.left input.old)) (standing_of progress.new (I.left input.new))) }
-    ensures fault { IfErr result (Breaks IsTrace IsLawful head_text (standing_of progress.old (I.left input.old))
-        (standing_of progress.new (I.left input.new)) (I.left input.new) (I.faults input.old) (I.faults input.new)) }
-    ensures told { IsTold (I.faults input.old) (I.faults input.new) result }
+    ensures head { IfOk result (TakesHead (reader_state_of progress.old (I.left input.old)) (reader_state_of progress.new (I.left input.new))) }
+    ensures fault { IfErr result (Breaks IsTrace IsLawful head_text (reader_state_of progress.old (I.left input.old))
+        (reader_state_of progress.new (I.left input.new)) (I.left input.new) (I.faults input.old) (I.faults input.new)) }
+    ensures reported { IsReported (I.faults input.old) (I.faults input.new) result }
     ensures asks { (input.new ≡ input.old) ⊎ IsUndecided IsTrace IsLawful head_text progress.old.intake.window }
 {
     progress.place = Place::first();
@@ -81,9 +81,9 @@ fn take_usual(progress: &mut Progress) -> Option<Event>
 #[inline(always)]
 pub fn go_on<I: Source>(progress: &mut Progress, input: &mut I) -> Result<Option<Event>, TextFault>
     requires { progress.old.phase ≡ phase.Events }
-    ensures goes { GoesOn (standing_of progress.old (I.left input.old)) (standing_of progress.new (I.left input.new))
+    ensures goes { GoesOn (reader_state_of progress.old (I.left input.old)) (reader_state_of progress.new (I.left input.new))
         (I.left input.new) (I.faults input.old) (I.faults input.new) result }
-    ensures told { IsTold (I.faults input.old) (I.faults input.new) result }
+    ensures reported { IsReported (I.faults input.old) (I.faults input.new) result }
     ensures asks { (input.new ≡ input.old) ⊎ IsEventOpen progress.old }
 {
     match take_usual(progress) {
@@ -99,9 +99,9 @@ fn go_on_apart<I: Source>(
     input: &mut I,
 ) -> Result<Option<Event>, TextFault>
     requires { progress.old.phase ≡ phase.Events }
-    ensures goes { GoesOn (standing_of progress.old (I.left input.old)) (standing_of progress.new (I.left input.new))
+    ensures goes { GoesOn (reader_state_of progress.old (I.left input.old)) (reader_state_of progress.new (I.left input.new))
         (I.left input.new) (I.faults input.old) (I.faults input.new) result }
-    ensures told { IsTold (I.faults input.old) (I.faults input.new) result }
+    ensures reported { IsReported (I.faults input.old) (I.faults input.new) result }
     ensures asks { (input.new ≡ input.old) ⊎ IsEventOpen progress.old }
 {
     match go_on_slowly(progress, input) {
@@ -118,9 +118,9 @@ fn go_on_slowly<I: Source>(
     input: &mut I,
 ) -> Result<Option<Event>, TextFault>
     requires { progress.old.phase ≡ phase.Events }
-    ensures goes { GoesOn (standing_of progress.old (I.left input.old)) (standing_of progress.new (I.left input.new))
+    ensures goes { GoesOn (reader_state_of progress.old (I.left input.old)) (reader_state_of progress.new (I.left input.new))
         (I.left input.new) (I.faults input.old) (I.faults input.new) result }
-    ensures told { IsTold (I.faults input.old) (I.faults input.new) result }
+    ensures reported { IsReported (I.faults input.old) (I.faults input.new) result }
     ensures asks { (input.new ≡ input.old) ⊎ IsEventOpen progress.old }
 {
     let layout = progress.layout;

@@ -56,7 +56,7 @@ impl<'a, I: Source> EventReader<'a, I> {
         ensures same_input { (input_of self.new).ghost_name ≡ (input_of self.old).ghost_name }
         // A failed question is reported, and one fails only where the bytes given don't decide: none is asked where they do.
         ensures unfailed { OnOk result (I.faults (input_of self.new).now ≡ I.faults (input_of self.old).now) }
-        ensures told { IfErr result (λ fault. fault ≢ TextFault.Read
+        ensures reported { IfErr result (λ fault. fault ≢ TextFault.Read
             → I.faults (input_of self.new).now ≡ I.faults (input_of self.old).now) }
         ensures later { I.faults (input_of self.old).now ≤ I.faults (input_of self.new).now }
     {
@@ -88,7 +88,7 @@ impl<'a, I: Source> EventReader<'a, I> {
         ensures same_input { (input_of self.new).ghost_name ≡ (input_of self.old).ghost_name }
         // A failed question is reported, and one fails only where the bytes given don't decide: none is asked where they do.
         ensures unfailed { OnOk result (I.faults (input_of self.new).now ≡ I.faults (input_of self.old).now) }
-        ensures told { IfErr result (λ fault. fault ≢ TextFault.Read
+        ensures reported { IfErr result (λ fault. fault ≢ TextFault.Read
             → I.faults (input_of self.new).now ≡ I.faults (input_of self.old).now) }
         ensures later { I.faults (input_of self.old).now ≤ I.faults (input_of self.new).now }
     {

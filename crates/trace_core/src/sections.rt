@@ -3,7 +3,7 @@ ghost use Rattle.std.specs.Prelude.{◌≡◌, ◌⊎◌, ◌+◌, ◌<◌, ◌�
 ghost use Rattle.std.specs.Io.KnownBytes.{Consumes};
 ghost use Rattle.larch_actions.specs.Layout.{IsLawful, HasNames};
 ghost use Rattle.trace_core.specs.Text.{head_text, event_line, IsTrace, IsRest, IsValues};
-ghost use Rattle.exact_text.specs.Intake.{rest_of, room_of, IsTold};
+ghost use Rattle.exact_text.specs.Intake.{rest_of, room_of, IsReported};
 ghost use Rattle.exact_text.specs.Exact.{HasReason, bytes_room};
 ghost use Rattle.trace_core.specs.Lacking.{LacksAt, IsUndecided};
 ghost use Rattle.trace_core.specs.Made.{IsMade};
@@ -28,7 +28,7 @@ pub fn take_values<I: Source>(
         × (length bytes ≤ room_of intake.old))) }
     ensures fault { IfErr result (HasReason (IsValues layout.now least) (bytes_room (room_of intake.old)) intake.old.lines
         (rest_of intake.old (I.left input.old)) (I.left input.new) (I.faults input.old) (I.faults input.new)) }
-    ensures told { IsTold (I.faults input.old) (I.faults input.new) result }
+    ensures reported { IsReported (I.faults input.old) (I.faults input.new) result }
     ensures asks { (input.new ≡ input.old) ⊎ Begins (IsValues layout.now least) intake.old.window }
 {
     match intake.goes_on(input) {
@@ -69,7 +69,7 @@ pub fn take_event<I: Source>(
         (rest_of intake.old (I.left input.old)) (I.left input.new) (I.faults input.old) (I.faults input.new)) }
     ensures lacks { IfErr result (LacksAt (HasNames layout.now) (event_line place) (room_of intake.old)
         (rest_of intake.old (I.left input.old)) (I.left input.new)) }
-    ensures told { IsTold (I.faults input.old) (I.faults input.new) result }
+    ensures reported { IsReported (I.faults input.old) (I.faults input.new) result }
     ensures asks { (input.new ≡ input.old) ⊎ IsUndecided (IsRest layout.now place) (HasNames layout.now)
         (event_line place) intake.old.window }
 {
@@ -98,7 +98,7 @@ pub fn take_head<I: Source>(intake: &mut Intake, input: &mut I) -> Result<Layout
         (I.left input.new) (I.faults input.old) (I.faults input.new)) }
     ensures lacks { IfErr result (LacksAt IsLawful head_text (room_of intake.old)
         (rest_of intake.old (I.left input.old)) (I.left input.new)) }
-    ensures told { IsTold (I.faults input.old) (I.faults input.new) result }
+    ensures reported { IsReported (I.faults input.old) (I.faults input.new) result }
     ensures asks { (input.new ≡ input.old) ⊎ IsUndecided IsTrace IsLawful head_text intake.old.window }
 {
     let version = match take_line(intake, input, &Expect::Head) {

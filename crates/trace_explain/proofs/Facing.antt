@@ -10,12 +10,12 @@ use Rattle.larch_actions.specs.Actions.{Spec}
 use Rattle.trace_board.specs.declared.history.Origin.{Origin}
 use Rattle.trace_board.specs.declared.causes.Cause.{Cause}
 use Rattle.trace_board.specs.declared.causes.Cause.TheVariants.{Never, Awaited, By}
-use Rattle.trace_board.specs.Kept.{kept_since, behind}
+use Rattle.trace_board.specs.Tracked.{tracked_since, extended}
 use Rattle.trace_board.specs.declared.rows.Bar.TheVariants.{Mutex}
 use Rattle.trace_board.specs.Laws.{IsSince}
 use Rattle.trace_board.specs.Awaited.{is_awaited}
 use Rattle.trace_board.proofs.Agreeing.{Fits, stands_in, is_come}
-use Rattle.trace_board.proofs.Causing.{told_run, IsWaitOn as IsOnWait}
+use Rattle.trace_board.proofs.Causing.{reported_run, IsWaitOn as IsOnWait}
 use Rattle.trace_board.proofs.Holding.{bars_are_holds}
 use Rattle.trace_explain.specs.Laws.{WaitsSo, IsWaitOn, is_named, is_listed, OpenSo, AlertedSo, FactsAreSo}
 
@@ -72,19 +72,19 @@ listed_so m t (Some o) h past held = ((λ e. held.0 ∙ ap some (eqb-true o.thre
 
 pub facts_are_so : FactsAreSo
 facts_are_so = λ version es s r.
-    let k = kept_since (behind [] es) in
-    let told = told_run version es s r in
+    let k = tracked_since (extended [] es) in
+    let reported = reported_run version es s r in
     record {
       held = bars_are_holds version es s r;
-      listed = λ m t. listed_so m t (k.held m) (s.holder m) (behind [] es) (bars_are_holds version es s r m);
-      lives = λ t. (told.lives t).is;
-      waits = λ t. waits_so s t (k.stands t) (told.fits t) (λ c. told.stands c t);
-      stands = λ c t. told.stands c t ∙ named_so c (k.stands t);
-      opens = λ n. open_so s n (k.opens n) (told.opens n);
-      alerts = λ t. alerted_so s t (k.alerts t) (told.alerts t);
-      taken_out_by = λ t c o is on. told.out t o is c (wait_on c (s.pending t) on);
-      opened_by = told.opener;
-      alerted_by = told.alerted;
-      forked_by = λ t. (told.lives t).forked;
-      ended_by = λ t. (told.lives t).ended;
+      listed = λ m t. listed_so m t (k.held m) (s.holder m) (extended [] es) (bars_are_holds version es s r m);
+      lives = λ t. (reported.lives t).is;
+      waits = λ t. waits_so s t (k.stands t) (reported.fits t) (λ c. reported.stands c t);
+      stands = λ c t. reported.stands c t ∙ named_so c (k.stands t);
+      opens = λ n. open_so s n (k.opens n) (reported.opens n);
+      alerts = λ t. alerted_so s t (k.alerts t) (reported.alerts t);
+      taken_out_by = λ t c o is on. reported.out t o is c (wait_on c (s.pending t) on);
+      opened_by = reported.opener;
+      alerted_by = reported.alerted;
+      forked_by = λ t. (reported.lives t).forked;
+      ended_by = λ t. (reported.lives t).ended;
     }

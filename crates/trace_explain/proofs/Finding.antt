@@ -10,16 +10,16 @@ use Rattle.trace_check.specs.declared.checker.Verdict.{Verdict}
 use Rattle.trace_check.specs.declared.checker.Verdict.TheVariants.{Legal, Illegal, BadLine, TooLong, ReadFault}
 use Rattle.trace_check.specs.Verdicts.{refusal}
 use Rattle.trace_check.specs.Watching.{IsNext, HasWatched}
-use Rattle.trace_board.specs.Kept.{Kept, kept_after, kept_since, behind}
-use Rattle.trace_board.proofs.Behind.{behind-push, length-behind}
+use Rattle.trace_board.specs.Tracked.{Tracked, tracked_after, tracked_since, extended}
+use Rattle.trace_board.proofs.Extended.{extended-push, length-extended}
 use Rattle.trace_board.proofs.Noting.{noted}
-use Rattle.trace_explain.specs.Told.{IsFailure, IsTellable}
+use Rattle.trace_explain.specs.Explained.{IsFailure, IsTellable}
 
 -- one more event
-pub finding_steps : (l : Layout) (es : List Event) (place : ℕ) (e : Event) (k k' : Kept) → IsNext l es place e → k ≡ kept_since (behind [] es) → k' ≡ kept_after place e k → k' ≡ kept_since (behind [] (es ++ e ∷ []))
+pub finding_steps : (l : Layout) (es : List Event) (place : ℕ) (e : Event) (k k' : Tracked) → IsNext l es place e → k ≡ tracked_since (extended [] es) → k' ≡ tracked_after place e k → k' ≡ tracked_since (extended [] (es ++ e ∷ []))
 finding_steps l es place e k k' next was turns =
-    let n : length (behind [] es) ≡ place = omega (arith, length-behind [] es, next.counted) in
-    turns ∙ (λ i. kept_after (sym n i) e (was i)) ∙ ap kept_since (sym (behind-push [] es e))
+    let n : length (extended [] es) ≡ place = omega (arith, length-extended [] es, next.counted) in
+    turns ∙ (λ i. tracked_after (sym n i) e (was i)) ∙ ap tracked_since (sym (extended-push [] es e))
 
 -- no refusal is illegal
 abbrev is_illegal : Verdict → Type 0
@@ -32,13 +32,13 @@ never_illegal place why fault.TooLong e = subst is_illegal e tt
 never_illegal place why fault.Read e = subst is_illegal e tt
 never_illegal place why fault.Memory e = subst is_illegal e tt
 
-module _ {W : Type 0} (keeps : W → Layout → List Event → W → Type 0) (budget : ℕ) (w w' : W) (k : Kept) (kept : (l : Layout) (es : List Event) → keeps w l es w' → k ≡ kept_since (behind [] es)) where
+module _ {W : Type 0} (keeps : W → Layout → List Event → W → Type 0) (budget : ℕ) (w w' : W) (k : Tracked) (kept : (l : Layout) (es : List Event) → keeps w l es w' → k ≡ tracked_since (extended [] es)) where
   -- an event that fails is the input's
   pub failure_of : (left : Option (List ℕ)) (v : Verdict) (layout : Option Layout) (failed : Option Event) → HasWatched keeps budget left w layout failed v w' → IsFailure budget left v k layout failed
   failure_of None (Illegal place why) layout failed h = tt
   failure_of (Some bytes) (Illegal place why) None failed h = absurd (never_illegal place why h.2.0 h.2.1)
   failure_of (Some bytes) (Illegal place why) (Some l) failed h =
-      let t = h.read in (t.0, ap Some (sym t.1), t.3, kept l h.events h.kept ∙ ap (λ es. kept_since (behind [] es)) (sym t.2))
+      let t = h.read in (t.0, ap Some (sym t.1), t.3, kept l h.events h.kept ∙ ap (λ es. tracked_since (extended [] es)) (sym t.2))
   failure_of left (Legal s) layout failed h = tt
   failure_of left (BadLine n) layout failed h = tt
   failure_of left TooLong layout failed h = tt

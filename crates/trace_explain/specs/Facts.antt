@@ -5,16 +5,16 @@ use Rattle.larch_actions.specs.declared.event.Version.{Version}
 use Rattle.larch_actions.specs.declared.event.Version.TheVariants.{One, Two}
 use Rattle.larch_actions.specs.declared.event.Event.{Event}
 use Rattle.trace_board.specs.declared.history.Origin.{Origin}
-use Rattle.trace_board.specs.declared.history.Effect.{Effect}
-use Rattle.trace_board.specs.declared.history.Effect.TheVariants as effect
+use Rattle.trace_board.specs.declared.history.Change.{Change}
+use Rattle.trace_board.specs.declared.history.Change.TheVariants as effect
 use Rattle.trace_board.specs.declared.causes.Cause.{Cause}
 use Rattle.trace_board.specs.declared.causes.Cause.TheVariants.{Never, Awaited, By}
-use Rattle.trace_board.specs.declared.causes.Move.{Move}
-use Rattle.trace_board.specs.declared.causes.Move.TheVariants as move
-use Rattle.trace_board.specs.declared.board.Waker.{Waker}
-use Rattle.trace_board.specs.declared.board.Waker.TheVariants as waker
+use Rattle.trace_board.specs.declared.causes.CauseChange.{CauseChange}
+use Rattle.trace_board.specs.declared.causes.CauseChange.TheVariants as move
+use Rattle.trace_board.specs.declared.board.Reason.{Reason}
+use Rattle.trace_board.specs.declared.board.Reason.TheVariants as waker
 use Rattle.trace_board.specs.Marks.{marks_of}
-use Rattle.trace_board.specs.Kept.{Kept}
+use Rattle.trace_board.specs.Tracked.{Tracked}
 use Rattle.trace_shapes.specs.Shapes.{with_number, each_below}
 use Rattle.trace_explain.specs.Sentences.{plain, since, standing, ended}
 
@@ -48,7 +48,7 @@ stander c t (Awaited d) = if d == c then with_number (codes " t") t else []
 stander c t (By o) = []
 
 -- all that stand in the condition
-unfoldable pub standers : Kept → ℕ → List ℕ
+unfoldable pub standers : Tracked → ℕ → List ℕ
 standers k c = with_number (codes "in c") c ++ codes ":" ++ each_below (λ t. stander c t (k.stands t)) 256 ++ codes "\n"
 
 -- the life of a thread at first
@@ -67,45 +67,45 @@ held_by t m None = []
 held_by t m (Some o) = if o.thread.0 == t then with_number (codes " m") m else []
 
 -- all that it holds
-unfoldable pub holdings : Kept → ℕ → List ℕ
+unfoldable pub holdings : Tracked → ℕ → List ℕ
 holdings k t = with_number (codes "held by t") t ++ codes ":" ++ each_below (λ m. held_by t m (k.held m)) 64 ++ codes "\n"
 
 -- the life of the thread that makes the event: in version one all live
-abbrev pub own_fact : Version → Kept → ℕ → List ℕ
+abbrev pub own_fact : Version → Tracked → ℕ → List ℕ
 own_fact One k t = []
 own_fact Two k t = life_text t (k.born t) (k.over t)
 
 -- the thread that is forked, and what the one that ends holds
-abbrev pub life_fact : Kept → Effect → List ℕ
+abbrev pub life_fact : Tracked → Change → List ℕ
 life_fact k (effect.Begins t) = life_text t (k.born t) (k.over t)
 life_fact k (effect.Ends t) = holdings k t
 life_fact k effect.Stays = []
 
 -- the mutex that the action takes or gives back
-abbrev pub mutex_fact : Kept → Effect → List ℕ
+abbrev pub mutex_fact : Tracked → Change → List ℕ
 mutex_fact k (effect.Begins m) = held_text m (k.held m)
 mutex_fact k (effect.Ends m) = held_text m (k.held m)
 mutex_fact k effect.Stays = []
 
 -- the condition that the action lets threads out of
-abbrev pub stand_fact : Kept → Move → List ℕ
+abbrev pub stand_fact : Tracked → CauseChange → List ℕ
 stand_fact k (move.Frees c left) = standers k c
 stand_fact k _ = []
 
 -- the semaphore of the action
-abbrev pub open_fact : Kept → Move → List ℕ
+abbrev pub open_fact : Tracked → CauseChange → List ℕ
 open_fact k (move.Awaits s c) = open_text s (k.opens s)
 open_fact k (move.Opens s) = open_text s (k.opens s)
 open_fact k _ = []
 
 -- the alert that the action goes on by, and the thread that it joins
-abbrev pub waker_fact : Kept → Waker → List ℕ
-waker_fact k (waker.Alarm t) = alert_text t (k.alerts t)
+abbrev pub waker_fact : Tracked → Reason → List ℕ
+waker_fact k (waker.Alerted t) = alert_text t (k.alerts t)
 waker_fact k (waker.Ended t) = life_text t (k.born t) (k.over t)
 waker_fact k _ = []
 
 -- all that the order and the action's row speak of
-unfoldable pub facts : Version → Kept → Event → List ℕ
+unfoldable pub facts : Version → Tracked → Event → List ℕ
 facts version k e =
     own_fact version k e.thread.0 ++ wait_text e.thread.0 (k.stands e.thread.0) ++ life_fact k (marks_of e.thread.0 e.action).life
     ++ mutex_fact k (marks_of e.thread.0 e.action).mutex ++ stand_fact k (marks_of e.thread.0 e.action).stand

@@ -12,7 +12,7 @@ use Rattle.trace_board.specs.declared.history.Origin.{Origin}
 use Rattle.trace_board.specs.declared.causes.Cause.{Cause}
 use Rattle.trace_board.specs.declared.causes.Cause.TheVariants.{Never, Awaited, By}
 use Rattle.trace_board.specs.declared.rows.Bar.TheVariants.{Mutex}
-use Rattle.trace_board.specs.Kept.{Kept, kept_since, behind, life_in}
+use Rattle.trace_board.specs.Tracked.{Tracked, tracked_since, extended, life_in}
 use Rattle.trace_board.specs.Laws.{IsSince, IsMadeBy, is_live, is_ended}
 
 -- what is said of a thread's wait: that it is in none; in which condition it stands; that it was taken out and is in none
@@ -51,9 +51,9 @@ is_listed t None = false
 is_listed t (Some o) = o.thread.0 == t
 
 -- What is kept of the events of a run says what is so in the state that they lead to.
-pub record AreSo (version : Version) (k : Kept) (s : Spec) (es : List Event) : Type 0 where
+pub record AreSo (version : Version) (k : Tracked) (s : Spec) (es : List Event) : Type 0 where
   -- who holds a mutex, and by which event it was taken, since when no event took it or gave it back
-  pub held : (m : ℕ) → MatchOption (k.held m) (s.holder m ≡ none) (λ o. (s.holder m ≡ some o.thread.0) × IsSince (Mutex m) o (behind [] es))
+  pub held : (m : ℕ) → MatchOption (k.held m) (s.holder m ≡ none) (λ o. (s.holder m ≡ some o.thread.0) × IsSince (Mutex m) o (extended [] es))
   -- the mutexes named are those that the thread holds
   pub listed : (m t : ℕ) → (is_listed t (k.held m) ≡ true) ↔ (s.holder m ≡ some t)
   -- whether a thread is unborn, lives or has ended
@@ -73,4 +73,4 @@ pub record AreSo (version : Version) (k : Kept) (s : Spec) (es : List Event) : T
   pub ended_by : (t : ℕ) (o : Origin) → k.over t ≡ Some o → IsMadeBy version (λ z. is_ended (z.life t)) es s o
 
 abbrev pub FactsAreSo : Type 0
-FactsAreSo = (version : Version) (es : List Event) (s : Spec) → IsRun version es s → AreSo version (kept_since (behind [] es)) s es
+FactsAreSo = (version : Version) (es : List Event) (s : Spec) → IsRun version es s → AreSo version (tracked_since (extended [] es)) s es

@@ -2,5 +2,5 @@ pub mod Rules
 pub mod Sentences
 pub mod Facts
 pub mod Words
-pub mod Told
+pub mod Explained
 pub mod Laws

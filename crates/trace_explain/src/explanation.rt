@@ -4,12 +4,12 @@ ghost use Rattle.firefly_outside.specs.Causes.{HasCause};
 ghost use Rattle.trace_check.specs.declared.checker.Verdict.{Verdict};
 ghost use Rattle.trace_check.specs.declared.checker.Verdict.TheVariants as verdict;
 ghost use Rattle.trace_check.specs.Verdicts.{IsJust};
-ghost use Rattle.trace_explain.specs.Told.{GotText, GotPrefix};
+ghost use Rattle.trace_explain.specs.Explained.{GotText, GotPrefix};
 
-use crate::noting::Noting;
+use crate::notes::Noting;
 use crate::tell::tell;
 use firefly_outside::{Sink, SinkFault, Source};
-use trace_board::board::Board;
+use trace_board::board::TraceState;
 use trace_check::{Verdict, check_with};
 
 /// Checks at most `budget` bytes of the input, and writes why the verdict is as it is: of a legal trace its counts, of an illegal one the event,
@@ -31,7 +31,7 @@ pub fn explain<I: Source, O: Sink>(
         (O.held out.old) (O.held out.new)) }
     ensures cause { HasCause (O.faults out.old) (O.faults out.new) result }
     // From the byte that decides on nothing more is read.
-    ensures told { IfOk result (λ v. v ≢ verdict.ReadFault → I.faults input.new ≡ I.faults input.old) }
+    ensures reported { IfOk result (λ v. v ≢ verdict.ReadFault → I.faults input.new ≡ I.faults input.old) }
     ensures later { I.faults input.old ≤ I.faults input.new }
 {
     explain_all(input, budget, out)
@@ -49,11 +49,11 @@ fn explain_all<I: Source, O: Sink>(
     ensures err { OnErr result (GotPrefix budget (I.left input.old) (I.left input.new) (I.faults input.old) (I.faults input.new)
         (O.held out.old) (O.held out.new)) }
     ensures cause { HasCause (O.faults out.old) (O.faults out.new) result }
-    ensures told { IfOk result (λ v. v ≢ verdict.ReadFault → I.faults input.new ≡ I.faults input.old) }
+    ensures reported { IfOk result (λ v. v ≢ verdict.ReadFault → I.faults input.new ≡ I.faults input.old) }
     ensures later { I.faults input.old ≤ I.faults input.new }
 {
     let mut noting = Noting {
-        board: Board::new(),
+        board: TraceState::new(),
     };
     let found = match check_with(input, budget, &mut noting) {
         Ok(found) => found,

@@ -2,15 +2,15 @@
 ghost use Rattle.std.specs.Prelude.{◌≡◌, ◌+◌, ◌*◌, ◌<◌, ◌≤◌, ◌++◌, length, take};
 ghost use Rattle.trace_board.specs.Causes.{cause_of, IsSmall};
 ghost use Rattle.trace_board.specs.History.{entry_of, IsWithin};
-ghost use Rattle.trace_board.specs.Kept.{kept_of, IsNear, IsNoted};
+ghost use Rattle.trace_board.specs.Tracked.{tracked_of, IsNear, IsNoted};
 ghost use Rattle.trace_shapes.specs.Shapes.{each_below};
 ghost use Rattle.trace_explain.specs.Facts.{wait_text, held_text, open_text, alert_text, stander, standers, first_text, life_text, held_by, holdings, own_fact, life_fact, mutex_fact, stand_fact, open_fact, waker_fact, facts};
 
 use crate::sentences::{add_ended, add_plain, add_since, add_standing};
 use larch_actions::{Event, Version};
-use trace_board::board::{Board, Waker};
-use trace_board::causes::{Cause, Causes, Move};
-use trace_board::history::{Effect, Origin, Table};
+use trace_board::board::{Reason, TraceState};
+use trace_board::causes::{Cause, CauseChange, Causes};
+use trace_board::history::{Change, Origin, Table};
 use trace_board::marks::marks_of;
 use trace_core::add;
 use trace_shapes::tags::add_with_number;
@@ -100,9 +100,9 @@ fn add_each_stander(buf: &mut [u8], at: usize, c: u32, stands: &Causes) -> usize
 
 // Adds who stands in the condition, as a line.
 #[tactic(auto, unfolding(crate::specs::Facts::standers))]
-fn add_standers(buf: &mut [u8], at: usize, c: u32, board: &Board) -> usize
+fn add_standers(buf: &mut [u8], at: usize, c: u32, board: &TraceState) -> usize
     requires room { at + 10400 ≤ length buf.old }
-    ensures text { take result buf.new ≡ take at buf.old ++ standers (kept_of board.now) c }
+    ensures text { take result buf.new ≡ take at buf.old ++ standers (tracked_of board.now) c }
     ensures near { result ≤ at + 10400 }
 {
     let at = add_with_number(buf, at, b"in c", u64::from(c));
@@ -140,10 +140,10 @@ fn add_life(buf: &mut [u8], at: usize, t: u32, born: Option<Origin>, over: Optio
 }
 
 // Adds how it stands with the life of this thread.
-fn add_life_of(buf: &mut [u8], at: usize, board: &Board, t: u32) -> usize
+fn add_life_of(buf: &mut [u8], at: usize, board: &TraceState, t: u32) -> usize
     requires few { t < 256 }
     requires room { at + 160 ≤ length buf.old }
-    ensures text { take result buf.new ≡ take at buf.old ++ life_text t ((kept_of board.now).born t) ((kept_of board.now).over t) }
+    ensures text { take result buf.new ≡ take at buf.old ++ life_text t ((tracked_of board.now).born t) ((tracked_of board.now).over t) }
     ensures near { result ≤ at + 160 }
 {
     add_life(buf, at, t, board.lives.born.at(t), board.lives.over.at(t))
@@ -182,9 +182,9 @@ fn add_each_held(buf: &mut [u8], at: usize, t: u32, held: &Table) -> usize
 
 // Adds what the thread holds, as a line.
 #[tactic(auto, unfolding(crate::specs::Facts::holdings))]
-fn add_holdings(buf: &mut [u8], at: usize, t: u32, board: &Board) -> usize
+fn add_holdings(buf: &mut [u8], at: usize, t: u32, board: &TraceState) -> usize
     requires room { at + 3000 ≤ length buf.old }
-    ensures text { take result buf.new ≡ take at buf.old ++ holdings (kept_of board.now) t }
+    ensures text { take result buf.new ≡ take at buf.old ++ holdings (tracked_of board.now) t }
     ensures near { result ≤ at + 3000 }
 {
     let at = add_with_number(buf, at, b"held by t", u64::from(t));
@@ -194,10 +194,10 @@ fn add_holdings(buf: &mut [u8], at: usize, t: u32, board: &Board) -> usize
 }
 
 // Adds the life of the thread that makes the event, in the version where not all live.
-fn add_own(buf: &mut [u8], at: usize, version: Version, board: &Board, t: u32) -> usize
+fn add_own(buf: &mut [u8], at: usize, version: Version, board: &TraceState, t: u32) -> usize
     requires few { t < 256 }
     requires room { at + 160 ≤ length buf.old }
-    ensures text { take result buf.new ≡ take at buf.old ++ own_fact version (kept_of board.now) t }
+    ensures text { take result buf.new ≡ take at buf.old ++ own_fact version (tracked_of board.now) t }
     ensures near { result ≤ at + 160 }
 {
     match version {
@@ -207,88 +207,94 @@ fn add_own(buf: &mut [u8], at: usize, version: Version, board: &Board, t: u32) -
 }
 
 // Adds how it stands with the thread that is forked, or what the one that ends holds.
-fn add_life_fact(buf: &mut [u8], at: usize, board: &Board, effect: Effect) -> usize
+fn add_life_fact(buf: &mut [u8], at: usize, board: &TraceState, effect: Change) -> usize
     requires within { IsWithin effect }
     requires room { at + 3000 ≤ length buf.old }
-    ensures text { take result buf.new ≡ take at buf.old ++ life_fact (kept_of board.now) effect }
+    ensures text { take result buf.new ≡ take at buf.old ++ life_fact (tracked_of board.now) effect }
     ensures near { result ≤ at + 3000 }
 {
     match effect {
-        Effect::Begins(t) => add_life_of(buf, at, board, t),
-        Effect::Ends(t) => add_holdings(buf, at, t, board),
-        Effect::Stays => at,
+        Change::Begins(t) => add_life_of(buf, at, board, t),
+        Change::Ends(t) => add_holdings(buf, at, t, board),
+        Change::Stays => at,
     }
 }
 
 // Adds who has the mutex that is taken or given back.
-fn add_mutex_fact(buf: &mut [u8], at: usize, board: &Board, effect: Effect) -> usize
+fn add_mutex_fact(buf: &mut [u8], at: usize, board: &TraceState, effect: Change) -> usize
     requires within { IsWithin effect }
     requires room { at + 160 ≤ length buf.old }
-    ensures text { take result buf.new ≡ take at buf.old ++ mutex_fact (kept_of board.now) effect }
+    ensures text { take result buf.new ≡ take at buf.old ++ mutex_fact (tracked_of board.now) effect }
     ensures near { result ≤ at + 160 }
 {
     match effect {
-        Effect::Begins(m) => add_held(buf, at, m, board.held.at(m)),
-        Effect::Ends(m) => add_held(buf, at, m, board.held.at(m)),
-        Effect::Stays => at,
+        Change::Begins(m) => add_held(buf, at, m, board.held.at(m)),
+        Change::Ends(m) => add_held(buf, at, m, board.held.at(m)),
+        Change::Stays => at,
     }
 }
 
 // Adds who stands in the condition that threads are let out of.
-fn add_stand_fact(buf: &mut [u8], at: usize, board: &Board, change: Move) -> usize
+fn add_stand_fact(buf: &mut [u8], at: usize, board: &TraceState, change: CauseChange) -> usize
     requires room { at + 10400 ≤ length buf.old }
-    ensures text { take result buf.new ≡ take at buf.old ++ stand_fact (kept_of board.now) change }
+    ensures text { take result buf.new ≡ take at buf.old ++ stand_fact (tracked_of board.now) change }
     ensures near { result ≤ at + 10400 }
 {
     match change {
-        Move::Frees(c, _) => add_standers(buf, at, c, board),
-        Move::Awaits(_, _) => at,
-        Move::Ends(_) => at,
-        Move::Opens(_) => at,
-        Move::Comes(_) => at,
-        Move::Stays => at,
+        CauseChange::Frees(c, _) => add_standers(buf, at, c, board),
+        CauseChange::Awaits(_, _) => at,
+        CauseChange::Ends(_) => at,
+        CauseChange::Opens(_) => at,
+        CauseChange::Comes(_) => at,
+        CauseChange::Stays => at,
     }
 }
 
 // Adds how it stands with the semaphore.
-fn add_open_fact(buf: &mut [u8], at: usize, board: &Board, change: Move) -> usize
+fn add_open_fact(buf: &mut [u8], at: usize, board: &TraceState, change: CauseChange) -> usize
     requires small { IsSmall change }
     requires room { at + 160 ≤ length buf.old }
-    ensures text { take result buf.new ≡ take at buf.old ++ open_fact (kept_of board.now) change }
+    ensures text { take result buf.new ≡ take at buf.old ++ open_fact (tracked_of board.now) change }
     ensures near { result ≤ at + 160 }
 {
     match change {
-        Move::Awaits(s, _) => add_open(buf, at, s, board.opens.at(s)),
-        Move::Opens(s) => add_open(buf, at, s, board.opens.at(s)),
-        Move::Frees(_, _) => at,
-        Move::Ends(_) => at,
-        Move::Comes(_) => at,
-        Move::Stays => at,
+        CauseChange::Awaits(s, _) => add_open(buf, at, s, board.opens.at(s)),
+        CauseChange::Opens(s) => add_open(buf, at, s, board.opens.at(s)),
+        CauseChange::Frees(_, _) => at,
+        CauseChange::Ends(_) => at,
+        CauseChange::Comes(_) => at,
+        CauseChange::Stays => at,
     }
 }
 
 // Adds how it stands with the alert that the action goes on by, or with the thread that it joins.
-fn add_waker_fact(buf: &mut [u8], at: usize, board: &Board, waker: Waker) -> usize
+fn add_waker_fact(buf: &mut [u8], at: usize, board: &TraceState, waker: Reason) -> usize
     requires near { IsNear waker }
     requires room { at + 160 ≤ length buf.old }
-    ensures text { take result buf.new ≡ take at buf.old ++ waker_fact (kept_of board.now) waker }
+    ensures text { take result buf.new ≡ take at buf.old ++ waker_fact (tracked_of board.now) waker }
     ensures near { result ≤ at + 160 }
 {
     match waker {
-        Waker::Alarm(t) => add_alert(buf, at, t, board.alerts.at(t)),
-        Waker::Ended(t) => add_life_of(buf, at, board, t),
-        Waker::Condition(_) => at,
-        Waker::Semaphore(_) => at,
-        Waker::Nobody => at,
+        Reason::Alerted(t) => add_alert(buf, at, t, board.alerts.at(t)),
+        Reason::Ended(t) => add_life_of(buf, at, board, t),
+        Reason::Condition(_) => at,
+        Reason::Semaphore(_) => at,
+        Reason::Nobody => at,
     }
 }
 
 /// Adds all that the order and the action's row speak of.
 #[tactic(auto, unfolding(crate::specs::Facts::facts))]
-pub fn add_facts(buf: &mut [u8], at: usize, version: Version, board: &Board, e: &Event) -> usize
+pub fn add_facts(
+    buf: &mut [u8],
+    at: usize,
+    version: Version,
+    board: &TraceState,
+    e: &Event,
+) -> usize
     requires noted { IsNoted e.now }
     requires room { at + 14500 ≤ length buf.old }
-    ensures text { take result buf.new ≡ take at buf.old ++ facts version (kept_of board.now) e.now }
+    ensures text { take result buf.new ≡ take at buf.old ++ facts version (tracked_of board.now) e.now }
     ensures near { result ≤ at + 14500 }
 {
     let at = add_own(buf, at, version, board, e.thread.0);

@@ -8,7 +8,7 @@
 mod explanation;
 mod facts;
 pub mod laws;
-mod noting;
+mod notes;
 mod rules;
 mod sentences;
 mod tell;

@@ -2,15 +2,15 @@
 ghost use Rattle.std.specs.Prelude.{◌≡◌, ◌+◌, ◌≤◌, ◌++◌, length, take, [], OnOk, OnErr, IfOk};
 ghost use Rattle.std.specs.Io.KnownBytes.{Appends};
 ghost use Rattle.firefly_outside.specs.Causes.{HasCause, AppendsPrefix};
-ghost use Rattle.trace_board.specs.Kept.{kept_of, IsNoted};
+ghost use Rattle.trace_board.specs.Tracked.{tracked_of, IsNoted};
 ghost use Rattle.trace_explain.specs.Words.{legal_text, failed_text, illegal_text, later_text, expected, bad_text, text_found};
-ghost use Rattle.trace_explain.specs.Told.{IsTellable};
+ghost use Rattle.trace_explain.specs.Explained.{IsTellable};
 
 use crate::facts::add_facts;
 use crate::rules::rule;
 use firefly_outside::{Sink, SinkFault, put_all};
 use larch_actions::{Broken, Event, Version};
-use trace_board::board::Board;
+use trace_board::board::TraceState;
 use trace_check::{Found, Summary, Verdict};
 use trace_core::add;
 use trace_shapes::shapes::word_of;
@@ -50,14 +50,14 @@ fn add_illegal(
     buf: &mut [u8],
     at: usize,
     version: Version,
-    board: &Board,
+    board: &TraceState,
     place: u64,
     e: &Event,
     why: Broken,
 ) -> usize
     requires noted { IsNoted e.now }
     requires room { at + 16384 ≤ length buf.old }
-    ensures text { take result buf.new ≡ take at buf.old ++ illegal_text version (kept_of board.now) place e.now why }
+    ensures text { take result buf.new ≡ take at buf.old ++ illegal_text version (tracked_of board.now) place e.now why }
     ensures near { result ≤ at + 16384 }
 {
     let at = add_failed(buf, at, place, e, why);
@@ -116,10 +116,10 @@ fn add_bad(buf: &mut [u8], at: usize, line: u64) -> usize
 }
 
 // Adds the text for what was found.
-fn add_found(buf: &mut [u8], at: usize, board: &Board, found: &Found) -> usize
+fn add_found(buf: &mut [u8], at: usize, board: &TraceState, found: &Found) -> usize
     requires tellable { IsTellable found.now.verdict found.now.layout found.now.failed }
     requires room { at + 16384 ≤ length buf.old }
-    ensures text { take result buf.new ≡ take at buf.old ++ text_found (kept_of board.now) found.now }
+    ensures text { take result buf.new ≡ take at buf.old ++ text_found (tracked_of board.now) found.now }
     ensures near { result ≤ at + 16384 }
 {
     match found.verdict {
@@ -140,14 +140,14 @@ fn add_found(buf: &mut [u8], at: usize, board: &Board, found: &Found) -> usize
 fn tell_by<O: Sink>(
     buf: &mut [u8],
     found: &Found,
-    board: &Board,
+    board: &TraceState,
     out: &mut O,
 ) -> Result<Verdict, SinkFault>
     requires tellable { IsTellable found.now.verdict found.now.layout found.now.failed }
     requires large { 16384 ≤ length buf.old }
     ensures verdict { IfOk result (λ v. v ≡ found.now.verdict) }
-    ensures ok { OnOk result (Appends (O.held out.old) (O.held out.new) (text_found (kept_of board.now) found.now)) }
-    ensures err { OnErr result (AppendsPrefix (O.held out.old) (O.held out.new) (text_found (kept_of board.now) found.now)) }
+    ensures ok { OnOk result (Appends (O.held out.old) (O.held out.new) (text_found (tracked_of board.now) found.now)) }
+    ensures err { OnErr result (AppendsPrefix (O.held out.old) (O.held out.new) (text_found (tracked_of board.now) found.now)) }
     ensures cause { HasCause (O.faults out.old) (O.faults out.new) result }
 {
     let end = add_found(buf, 0, board, found);
@@ -158,11 +158,11 @@ fn tell_by<O: Sink>(
 }
 
 /// Sends the text for what was found, and gives the verdict.
-pub fn tell<O: Sink>(found: &Found, board: &Board, out: &mut O) -> Result<Verdict, SinkFault>
+pub fn tell<O: Sink>(found: &Found, board: &TraceState, out: &mut O) -> Result<Verdict, SinkFault>
     requires { IsTellable found.now.verdict found.now.layout found.now.failed }
     ensures verdict { IfOk result (λ v. v ≡ found.now.verdict) }
-    ensures ok { OnOk result (Appends (O.held out.old) (O.held out.new) (text_found (kept_of board.now) found.now)) }
-    ensures err { OnErr result (AppendsPrefix (O.held out.old) (O.held out.new) (text_found (kept_of board.now) found.now)) }
+    ensures ok { OnOk result (Appends (O.held out.old) (O.held out.new) (text_found (tracked_of board.now) found.now)) }
+    ensures err { OnErr result (AppendsPrefix (O.held out.old) (O.held out.new) (text_found (tracked_of board.now) found.now)) }
     ensures cause { HasCause (O.faults out.old) (O.faults out.new) result }
 {
     let mut buf = [0; 16384];

@@ -7,7 +7,7 @@ use Rattle.firefly_outside.specs.Causes.{AppendsPrefix, HasCause, Rose}
 use Rattle.larch_actions.specs.declared.event.Layout.{Layout}
 use Rattle.larch_actions.specs.declared.event.Event.{Event}
 use Rattle.text_output.specs.Sent.{Sends, Puts}
-use Rattle.text_output.proofs.Prefixes.{appends_then, prefix_behind, prefix_of_more, sends_then, fails_then}
+use Rattle.text_output.proofs.Prefixes.{appends_then, prefix_past, prefix_of_more, sends_then, fails_then}
 use Rattle.text_output.proofs.Pieces.{cause_then}
 use Rattle.trace_check.specs.declared.checker.Verdict.{Verdict}
 use Rattle.trace_check.specs.declared.checker.Verdict.TheVariants as verdict
@@ -37,24 +37,24 @@ open-none l = sym (append-nil (head_text l))
 
 -- what was sent, followed by what was held, and what is held now
 pub prefix_after : (t0 t1 t2 : Option (List ℕ)) (h0 h1 p : List ℕ) → Sends t0 h0 p t1 h1 → AppendsPrefix t1 t2 h1 → AppendsPrefix t0 t2 (h0 ++ p)
-prefix_after t0 t1 t2 h0 h1 p a k = subst (AppendsPrefix t0 t2) a.2 (prefix_behind t0 t1 t2 a.0 h1 a.1 k)
+prefix_after t0 t1 t2 h0 h1 p a k = subst (AppendsPrefix t0 t2) a.2 (prefix_past t0 t1 t2 a.0 h1 a.1 k)
 
 -- what was put after the head and these events
-pub steps : (told₀ told told' : Option (List ℕ)) (kept₀ kept kept' : List ℕ) (l : Layout) (es : List Event) (place : ℕ) (e : Event) → length es ≡ place
-    → Sends told₀ kept₀ (open_text l es) told kept → Sends told kept (event_text place e) told' kept' → Sends told₀ kept₀ (open_text l (es ++ e ∷ [])) told' kept'
-steps told₀ told told' kept₀ kept kept' l es place e counted s t =
-    subst (λ x. Sends told₀ kept₀ x told' kept') (open-push l es e place counted) (sends_then told₀ told told' kept₀ kept kept' (open_text l es) (event_text place e) s t)
+pub steps : (reported₀ reported reported' : Option (List ℕ)) (kept₀ kept kept' : List ℕ) (l : Layout) (es : List Event) (place : ℕ) (e : Event) → length es ≡ place
+    → Sends reported₀ kept₀ (open_text l es) reported kept → Sends reported kept (event_text place e) reported' kept' → Sends reported₀ kept₀ (open_text l (es ++ e ∷ [])) reported' kept'
+steps reported₀ reported reported' kept₀ kept kept' l es place e counted s t =
+    subst (λ x. Sends reported₀ kept₀ x reported' kept') (open-push l es e place counted) (sends_then reported₀ reported reported' kept₀ kept kept' (open_text l es) (event_text place e) s t)
 
-pub step_fails : (told₀ told told' : Option (List ℕ)) (kept₀ kept : List ℕ) (l : Layout) (es : List Event) (place : ℕ) (e : Event) → length es ≡ place
-    → Sends told₀ kept₀ (open_text l es) told kept → AppendsPrefix told told' (kept ++ event_text place e) → AppendsPrefix told₀ told' (kept₀ ++ open_text l (es ++ e ∷ []))
-step_fails told₀ told told' kept₀ kept l es place e counted s k =
-    subst (λ x. AppendsPrefix told₀ told' (kept₀ ++ x)) (open-push l es e place counted) (fails_then told₀ told told' kept₀ kept (open_text l es) (event_text place e) s k)
+pub step_fails : (reported₀ reported reported' : Option (List ℕ)) (kept₀ kept : List ℕ) (l : Layout) (es : List Event) (place : ℕ) (e : Event) → length es ≡ place
+    → Sends reported₀ kept₀ (open_text l es) reported kept → AppendsPrefix reported reported' (kept ++ event_text place e) → AppendsPrefix reported₀ reported' (kept₀ ++ open_text l (es ++ e ∷ []))
+step_fails reported₀ reported reported' kept₀ kept l es place e counted s k =
+    subst (λ x. AppendsPrefix reported₀ reported' (kept₀ ++ x)) (open-push l es e place counted) (fails_then reported₀ reported reported' kept₀ kept (open_text l es) (event_text place e) s k)
 
-pub head_sent : (told₀ told : Option (List ℕ)) (kept₀ kept : List ℕ) (l : Layout) → Sends told₀ kept₀ (head_text l) told kept → Sends told₀ kept₀ (open_text l []) told kept
-head_sent told₀ told kept₀ kept l s = subst (λ x. Sends told₀ kept₀ x told kept) (open-none l) s
+pub head_sent : (reported₀ reported : Option (List ℕ)) (kept₀ kept : List ℕ) (l : Layout) → Sends reported₀ kept₀ (head_text l) reported kept → Sends reported₀ kept₀ (open_text l []) reported kept
+head_sent reported₀ reported kept₀ kept l s = subst (λ x. Sends reported₀ kept₀ x reported kept) (open-none l) s
 
-pub head_fails : (told₀ told : Option (List ℕ)) (kept₀ : List ℕ) (l : Layout) → AppendsPrefix told₀ told (kept₀ ++ head_text l) → AppendsPrefix told₀ told (kept₀ ++ open_text l [])
-head_fails told₀ told kept₀ l k = subst (λ x. AppendsPrefix told₀ told (kept₀ ++ x)) (open-none l) k
+pub head_fails : (reported₀ reported : Option (List ℕ)) (kept₀ : List ℕ) (l : Layout) → AppendsPrefix reported₀ reported (kept₀ ++ head_text l) → AppendsPrefix reported₀ reported (kept₀ ++ open_text l [])
+head_fails reported₀ reported kept₀ l k = subst (λ x. AppendsPrefix reported₀ reported (kept₀ ++ x)) (open-none l) k
 
 -- what the sink has after the head, and after one more event
 module _ {O E : Type 0} (held : O → Option (List ℕ)) (faults : O → ℕ) (out out' : MutBor O) (kept kept' : List ℕ) (same : out'.ghost_name ≡ out.ghost_name) (l : Layout) where
@@ -81,52 +81,52 @@ same_text : (l l' : Layout) (es es' : List Event) → l' ≡ l → es' ≡ es �
 same_text l l' es es' p q = λ i. json_text (sym p i) (sym q i)
 
 -- the sink failed within it
-cut_within : (budget : ℕ) (left told told' : Option (List ℕ)) (l : Layout) (es : List Event) → IfSome left (λ bytes. Begins budget bytes l es) → AppendsPrefix told told' (json_text l es) → IsCutShort budget left told told'
-cut_within budget None told told' l es h k = tt
-cut_within budget (Some bytes) told told' l es h k = (h.0, subst (AppendsPrefix told told') (same_text l h.0.layout es h.0.events h.1 h.2) k)
+cut_within : (budget : ℕ) (left reported reported' : Option (List ℕ)) (l : Layout) (es : List Event) → IfSome left (λ bytes. Begins budget bytes l es) → AppendsPrefix reported reported' (json_text l es) → IsCutShort budget left reported reported'
+cut_within budget None reported reported' l es h k = tt
+cut_within budget (Some bytes) reported reported' l es h k = (h.0, subst (AppendsPrefix reported reported') (same_text l h.0.layout es h.0.events h.1 h.2) k)
 
 -- it is the text that the verdict asks for
-got_of : (budget : ℕ) (bytes : List ℕ) (told told' : Option (List ℕ)) (l : Layout) (es : List Event) (failed : Option Event) (v : Verdict) → Begins budget bytes l es → IsReadTo budget bytes l es failed v → Appends told told' (json_text l es)
-    → Got budget bytes told told' v
-got_of budget bytes told told' l es failed (verdict.Legal s) b h k = (h.0, subst (Appends told told') (same_text l h.0.layout es h.0.events h.1 h.2) k)
-got_of budget bytes told told' l es failed (verdict.Illegal place why) b h k = (h.0, subst (Appends told told') (same_text l h.0.layout es h.0.events h.1 h.2) k)
-got_of budget bytes told told' l es failed (verdict.BadLine n) b h k = inr (b.0, subst (Appends told told') (same_text l b.0.layout es b.0.events b.1 b.2) k)
-got_of budget bytes told told' l es failed verdict.TooLong b h k = inr (b.0, subst (Appends told told') (same_text l b.0.layout es b.0.events b.1 b.2) k)
-got_of budget bytes told told' l es failed verdict.ReadFault b h k = inr (b.0, subst (Appends told told') (same_text l b.0.layout es b.0.events b.1 b.2) k)
+got_of : (budget : ℕ) (bytes : List ℕ) (reported reported' : Option (List ℕ)) (l : Layout) (es : List Event) (failed : Option Event) (v : Verdict) → Begins budget bytes l es → IsReadTo budget bytes l es failed v → Appends reported reported' (json_text l es)
+    → Got budget bytes reported reported' v
+got_of budget bytes reported reported' l es failed (verdict.Legal s) b h k = (h.0, subst (Appends reported reported') (same_text l h.0.layout es h.0.events h.1 h.2) k)
+got_of budget bytes reported reported' l es failed (verdict.Illegal place why) b h k = (h.0, subst (Appends reported reported') (same_text l h.0.layout es h.0.events h.1 h.2) k)
+got_of budget bytes reported reported' l es failed (verdict.BadLine n) b h k = inr (b.0, subst (Appends reported reported') (same_text l b.0.layout es b.0.events b.1 b.2) k)
+got_of budget bytes reported reported' l es failed verdict.TooLong b h k = inr (b.0, subst (Appends reported reported') (same_text l b.0.layout es b.0.events b.1 b.2) k)
+got_of budget bytes reported reported' l es failed verdict.ReadFault b h k = inr (b.0, subst (Appends reported reported') (same_text l b.0.layout es b.0.events b.1 b.2) k)
 
-written_of : (budget : ℕ) (left told told' : Option (List ℕ)) (l : Layout) (es : List Event) (failed : Option Event) (v : Verdict) → IfSome left (λ bytes. Begins budget bytes l es) → IfSome left (λ bytes. IsReadTo budget bytes l es failed v)
-    → Appends told told' (json_text l es) → IsWritten budget left told told' v
-written_of budget None told told' l es failed v b h k = tt
-written_of budget (Some bytes) told told' l es failed v b h k = got_of budget bytes told told' l es failed v b h k
+written_of : (budget : ℕ) (left reported reported' : Option (List ℕ)) (l : Layout) (es : List Event) (failed : Option Event) (v : Verdict) → IfSome left (λ bytes. Begins budget bytes l es) → IfSome left (λ bytes. IsReadTo budget bytes l es failed v)
+    → Appends reported reported' (json_text l es) → IsWritten budget left reported reported' v
+written_of budget None reported reported' l es failed v b h k = tt
+written_of budget (Some bytes) reported reported' l es failed v b h k = got_of budget bytes reported reported' l es failed v b h k
 
 -- the text of the events and the closing, of which a part was held
-closed : (told₀ told : Option (List ℕ)) (kept : List ℕ) (l : Layout) (es : List Event) (s : Sends told₀ [] (open_text l es) told kept) → s.0 ++ (kept ++ closing_text) ≡ json_text l es
+closed : (reported₀ reported : Option (List ℕ)) (kept : List ℕ) (l : Layout) (es : List Event) (s : Sends reported₀ [] (open_text l es) reported kept) → s.0 ++ (kept ++ closing_text) ≡ json_text l es
 unfolding json_text
-closed told₀ told kept l es s = sym (append_assoc s.0 kept closing_text) ∙ ap (λ x. x ++ closing_text) s.2
+closed reported₀ reported kept l es s = sym (append_assoc s.0 kept closing_text) ∙ ap (λ x. x ++ closing_text) s.2
 
-open_first : (told told' : Option (List ℕ)) (l : Layout) (es : List Event) → AppendsPrefix told told' ([] ++ open_text l es) → AppendsPrefix told told' (json_text l es)
+open_first : (reported reported' : Option (List ℕ)) (l : Layout) (es : List Event) → AppendsPrefix reported reported' ([] ++ open_text l es) → AppendsPrefix reported reported' (json_text l es)
 unfolding json_text
-open_first told told' l es k = prefix_of_more told told' (open_text l es) closing_text k
+open_first reported reported' l es k = prefix_of_more reported reported' (open_text l es) closing_text k
 
 -- what is answered where the sink fails before the closing, and at the closing
 module _ {E : Type 0} (budget : ℕ) (left left' : Option (List ℕ)) (before now : ℕ) (later : before ≤ now) where
-  pub answers_cut : (told told' : Option (List ℕ)) (sunk sunk' : ℕ) (f : E) (l : Layout) (es : List Event) → IfSome left (λ bytes. Begins budget bytes l es) → AppendsPrefix told told' ([] ++ open_text l es) → sunk ≤ sunk' → Rose sunk sunk'
-      → Answers budget left left' before now told told' sunk sunk' (let r : Result Verdict E = Err f in r)
-  answers_cut told told' sunk sunk' f l es front k le rose = record {
+  pub answers_cut : (reported reported' : Option (List ℕ)) (sunk sunk' : ℕ) (f : E) (l : Layout) (es : List Event) → IfSome left (λ bytes. Begins budget bytes l es) → AppendsPrefix reported reported' ([] ++ open_text l es) → sunk ≤ sunk' → Rose sunk sunk'
+      → Answers budget left left' before now reported reported' sunk sunk' (let r : Result Verdict E = Err f in r)
+  answers_cut reported reported' sunk sunk' f l es front k le rose = record {
     just = tt;
     written = tt;
-    cut_short = cut_within budget left told told' l es front (open_first told told' l es k);
+    cut_short = cut_within budget left reported reported' l es front (open_first reported reported' l es k);
     cause = record { later = le; failed = rose };
     unfailed = tt;
     later = later;
   }
 
-  module _ (told₀ told told' : Option (List ℕ)) (sunk₀ sunk sunk' : ℕ) (kept : List ℕ) (l : Layout) (es : List Event) (s : Sends told₀ [] (open_text l es) told kept) (le : sunk₀ ≤ sunk) (front : IfSome left (λ bytes. Begins budget bytes l es)) where
-    pub answers_closed : (failed : Option Event) (v : Verdict) (r : Result Verdict E) → IfOk r (λ w. w ≡ v) → OnOk r (Appends told told' (kept ++ closing_text)) → OnErr r (AppendsPrefix told told' (kept ++ closing_text)) → HasCause sunk sunk' r
-        → IfSome left (λ bytes. IsReadTo budget bytes l es failed v) → IsJust budget left left' before now v → (v ≢ verdict.ReadFault → now ≡ before) → Answers budget left left' before now told₀ told' sunk₀ sunk' r
+  module _ (reported₀ reported reported' : Option (List ℕ)) (sunk₀ sunk sunk' : ℕ) (kept : List ℕ) (l : Layout) (es : List Event) (s : Sends reported₀ [] (open_text l es) reported kept) (le : sunk₀ ≤ sunk) (front : IfSome left (λ bytes. Begins budget bytes l es)) where
+    pub answers_closed : (failed : Option Event) (v : Verdict) (r : Result Verdict E) → IfOk r (λ w. w ≡ v) → OnOk r (Appends reported reported' (kept ++ closing_text)) → OnErr r (AppendsPrefix reported reported' (kept ++ closing_text)) → HasCause sunk sunk' r
+        → IfSome left (λ bytes. IsReadTo budget bytes l es failed v) → IsJust budget left left' before now v → (v ≢ verdict.ReadFault → now ≡ before) → Answers budget left left' before now reported₀ reported' sunk₀ sunk' r
     answers_closed failed v (Ok w) is ok err cause read just unfailed = record {
       just = subst (IsJust budget left left' before now) (sym is) just;
-      written = subst (IsWritten budget left told₀ told') (sym is) (written_of budget left told₀ told' l es failed v front read (subst (Appends told₀ told') (closed told₀ told kept l es s) (appends_then told₀ told told' s.0 (kept ++ closing_text) s.1 ok)));
+      written = subst (IsWritten budget left reported₀ reported') (sym is) (written_of budget left reported₀ reported' l es failed v front read (subst (Appends reported₀ reported') (closed reported₀ reported kept l es s) (appends_then reported₀ reported reported' s.0 (kept ++ closing_text) s.1 ok)));
       cut_short = tt;
       cause = cause_then (Ok w) le cause;
       unfailed = λ ne. unfailed (λ e. ne (is ∙ e));
@@ -135,7 +135,7 @@ module _ {E : Type 0} (budget : ℕ) (left left' : Option (List ℕ)) (before no
     answers_closed failed v (Err f) is ok err cause read just unfailed = record {
       just = tt;
       written = tt;
-      cut_short = cut_within budget left told₀ told' l es front (subst (AppendsPrefix told₀ told') (closed told₀ told kept l es s) (prefix_behind told₀ told told' s.0 (kept ++ closing_text) s.1 err));
+      cut_short = cut_within budget left reported₀ reported' l es front (subst (AppendsPrefix reported₀ reported') (closed reported₀ reported kept l es s) (prefix_past reported₀ reported reported' s.0 (kept ++ closing_text) s.1 err));
       cause = cause_then (Err f) le cause;
       unfailed = tt;
       later = later;

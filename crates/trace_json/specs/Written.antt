@@ -14,32 +14,32 @@ use Rattle.trace_json.specs.Texts.{json_text, open_text}
 
 -- the sink got nothing, since there is no head, or the text of events at the front of the input
 abbrev pub GotPrefix : ℕ → List ℕ → Option (List ℕ) → Option (List ℕ) → Type 0
-GotPrefix budget bytes told told' =
-    Appends told told' [] ⊎ ((w : IsPrefixText budget bytes) × Appends told told' (json_text w.layout w.events))
+GotPrefix budget bytes reported reported' =
+    Appends reported reported' [] ⊎ ((w : IsPrefixText budget bytes) × Appends reported reported' (json_text w.layout w.events))
 
 -- the sink got the text that this verdict asks for: of all events, or of those before the one that fails
 abbrev pub Got : ℕ → List ℕ → Option (List ℕ) → Option (List ℕ) → Verdict → Type 0
-Got budget bytes told told' (Legal s) = (w : IsLegalText budget bytes s) × Appends told told' (json_text w.layout w.events)
-Got budget bytes told told' (Illegal place why) =
-    (w : IsIllegalText budget bytes place why) × Appends told told' (json_text w.layout w.events)
-Got budget bytes told told' (BadLine k) = GotPrefix budget bytes told told'
-Got budget bytes told told' TooLong = GotPrefix budget bytes told told'
-Got budget bytes told told' ReadFault = GotPrefix budget bytes told told'
+Got budget bytes reported reported' (Legal s) = (w : IsLegalText budget bytes s) × Appends reported reported' (json_text w.layout w.events)
+Got budget bytes reported reported' (Illegal place why) =
+    (w : IsIllegalText budget bytes place why) × Appends reported reported' (json_text w.layout w.events)
+Got budget bytes reported reported' (BadLine k) = GotPrefix budget bytes reported reported'
+Got budget bytes reported reported' TooLong = GotPrefix budget bytes reported reported'
+Got budget bytes reported reported' ReadFault = GotPrefix budget bytes reported reported'
 
 abbrev pub IsWritten : ℕ → Option (List ℕ) → Option (List ℕ) → Option (List ℕ) → Verdict → Type 0
-IsWritten budget left told told' v = IfSome left (λ bytes. Got budget bytes told told' v)
+IsWritten budget left reported reported' v = IfSome left (λ bytes. Got budget bytes reported reported' v)
 
 -- the sink failed, and got a proper prefix of the text of events at the front of the input
 abbrev pub IsCutShort : ℕ → Option (List ℕ) → Option (List ℕ) → Option (List ℕ) → Type 0
-IsCutShort budget left told told' =
-    IfSome left (λ bytes. (w : IsPrefixText budget bytes) × AppendsPrefix told told' (json_text w.layout w.events))
+IsCutShort budget left reported reported' =
+    IfSome left (λ bytes. (w : IsPrefixText budget bytes) × AppendsPrefix reported reported' (json_text w.layout w.events))
 
 -- what a call answers, and what it did to its input and its sink
-pub record Answers {E : Type 0} (budget : ℕ) (left left' : Option (List ℕ)) (before now : ℕ) (told told' : Option (List ℕ)) (sunk sunk' : ℕ)
+pub record Answers {E : Type 0} (budget : ℕ) (left left' : Option (List ℕ)) (before now : ℕ) (reported reported' : Option (List ℕ)) (sunk sunk' : ℕ)
     (r : Result Verdict E) : Type 0 where
   pub just : IfOk r (λ v. IsJust budget left left' before now v)
-  pub written : IfOk r (λ v. IsWritten budget left told told' v)
-  pub cut_short : OnErr r (IsCutShort budget left told told')
+  pub written : IfOk r (λ v. IsWritten budget left reported reported' v)
+  pub cut_short : OnErr r (IsCutShort budget left reported reported')
   pub cause : HasCause sunk sunk' r
   pub unfailed : IfOk r (λ v. v ≢ ReadFault → now ≡ before)
   pub later : before ≤ now

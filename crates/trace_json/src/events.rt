@@ -109,7 +109,7 @@ pub fn write_events<I: Source, O: Sink>(
     ensures cut_short { OnErr result (IsCutShort budget (I.left input.old) (O.held out.old) (O.held out.new)) }
     ensures cause { HasCause (O.faults out.old) (O.faults out.new) result }
     // A failed read is reported, and a read can fail only where no verdict is due yet. So nothing is asked once a byte decides.
-    ensures told { IfOk result (λ v. v ≢ verdict.ReadFault → I.faults input.new ≡ I.faults input.old) }
+    ensures reported { IfOk result (λ v. v ≢ verdict.ReadFault → I.faults input.new ≡ I.faults input.old) }
     ensures later { I.faults input.old ≤ I.faults input.new }
 {
     let mut writing = Writing {

@@ -6,15 +6,15 @@ use native.Mathlib.Decide.{ℕ_discrete}
 use Rattle.std.specs.declared.option.Option.{Option}
 use Rattle.larch_actions.specs.declared.event.Layout.{Layout}
 use Rattle.trace_board.specs.declared.holds.Hold.{Hold}
-use Rattle.trace_board.specs.Kept.{Kept, kept_since, longest_in}
-use Rattle.trace_shapes.specs.declared.view.View.{View}
+use Rattle.trace_board.specs.Tracked.{Tracked, tracked_since, longest_in}
+use Rattle.trace_shapes.specs.declared.view.DrawnRange.{DrawnRange}
 use Rattle.trace_shapes.specs.Places.{height_of}
 use Rattle.trace_shapes.specs.declared.geometry.TheConstants.{NAME_LINE}
 use Rattle.trace_shapes.specs.Shapes.{with_number, each_below, place_text}
-use Rattle.trace_picture.specs.Longest.{hold_end, hold_text, told_hold, line_x, line_y, sample_text, hold_line, holds_text, holds_height}
+use Rattle.trace_picture.specs.Longest.{hold_end, hold_text, reported_hold, line_x, line_y, sample_text, hold_line, holds_text, holds_height}
 use Rattle.trace_picture.specs.Overview.{over_height, over_style}
 use Rattle.trace_picture.specs.Picture.{part_text, end_text}
-use Rattle.trace_picture.specs.Seen.{HasText, HoldsAreTold}
+use Rattle.trace_picture.specs.Seen.{HasText, HoldsAreReported}
 
 -- a part of a part is one of the whole
 has_in : (whole mid part : List ℕ) → HasText whole mid → HasText mid part → HasText whole part
@@ -38,7 +38,7 @@ each_has f (suc n) m lt = dite (ℕ_discrete m n)
     record { before = h.before; after = h.after ++ f n; text = ap (λ x. x ++ f n) h.text ∙ append_assoc (h.before ++ f m) h.after (f n) })
 
 -- a line of a picture's end
-module _ (l : Layout) (v : View) (k : Kept) (n : ℕ) (note : List ℕ) (m : ℕ) (lt : m < l.mutexes) where
+module _ (l : Layout) (v : DrawnRange) (k : Tracked) (n : ℕ) (note : List ℕ) (m : ℕ) (lt : m < l.mutexes) where
   abbrev low : ℕ
   low = height_of l v n
 
@@ -56,21 +56,21 @@ module _ (l : Layout) (v : View) (k : Kept) (n : ℕ) (note : List ℕ) (m : ℕ
   abbrev before_name : List ℕ
   before_name = sample_text low m ++ (codes "<text class='t" ++ place_text (line_x m + 40) (line_y low m + NAME_LINE))
 
-  line_there : (h : Option Hold) → longest_in k n m ≡ h → HasText (end_text l v k n note) (name ++ told_hold h)
+  line_there : (h : Option Hold) → longest_in k n m ≡ h → HasText (end_text l v k n note) (name ++ reported_hold h)
   unfolding hold_line
   line_there h is =
-      has_in (end_text l v k n note) (hold_line low m (longest_in k n m)) (name ++ told_hold h)
+      has_in (end_text l v k n note) (hold_line low m (longest_in k n m)) (name ++ reported_hold h)
       (has_in (end_text l v k n note) (holds_text l.mutexes k n low) (hold_line low m (longest_in k n m)) lines_there (each_has (λ i. hold_line low i (longest_in k n i)) l.mutexes m lt))
-      (record { before = before_name; after = codes "</text>\n"; text = ap (λ x. before_name ++ name ++ told_hold x ++ codes "</text>\n") is ∙ regroup before_name name (told_hold h) (codes "</text>\n") })
+      (record { before = before_name; after = codes "</text>\n"; text = ap (λ x. before_name ++ name ++ reported_hold x ++ codes "</text>\n") is ∙ regroup before_name name (reported_hold h) (codes "</text>\n") })
     where
       regroup : (a b c d : List ℕ) → a ++ b ++ c ++ d ≡ a ++ (b ++ c) ++ d
       regroup a b c d = simp append_assoc
 
-  told : (h : Option Hold) → longest_in k n m ≡ h
+  reported : (h : Option Hold) → longest_in k n m ≡ h
       → MatchOption h (HasText (end_text l v k n note) (name ++ codes "never held")) (λ h. HasText (end_text l v k n note) (name ++ hold_text h))
-  told None is = line_there None is
-  told (Some h) is = line_there (Some h) is
+  reported None is = line_there None is
+  reported (Some h) is = line_there (Some h) is
 
-pub holds_are_told : HoldsAreTold
+pub holds_are_reported : HoldsAreReported
 unfolding hold_text hold_end
-holds_are_told = λ l v past n note m lt. told l v (kept_since past) n note m lt (longest_in (kept_since past) n m) refl
+holds_are_reported = λ l v past n note m lt. reported l v (tracked_since past) n note m lt (longest_in (tracked_since past) n m) refl

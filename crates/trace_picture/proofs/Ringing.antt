@@ -10,16 +10,16 @@ use Rattle.larch_actions.specs.declared.event.Version.{Version}
 use Rattle.larch_actions.specs.declared.event.Event.{Event}
 use Rattle.larch_actions.specs.Actions.{Spec, Acts, at_first}
 use Rattle.larch_actions.specs.State.{Moment, spec_of}
-use Rattle.trace_core.specs.Standing.{Standing}
+use Rattle.trace_core.specs.ReaderState.{ReaderState}
 use Rattle.trace_core.specs.Steps.{TakesHead, TakesEvent}
 use Rattle.trace_core.specs.Whole.{Flows}
 use Rattle.trace_check.proofs.UnderWay.{starts_on, step_on}
 use Rattle.lock_order.specs.declared.answer.Edge.{Edge}
 use Rattle.lock_order.specs.declared.lock_graph.LockGraph.{LockGraph}
-use Rattle.lock_order.specs.Order.{IsFirst, TellsCycle}
+use Rattle.lock_order.specs.Order.{IsFirst, ReportsCycle}
 use Rattle.lock_order.specs.Kept.{IsKept}
-use Rattle.trace_shapes.specs.declared.view.View.{View}
-use Rattle.trace_board.specs.Kept.{Kept, nothing_kept, kept_after}
+use Rattle.trace_shapes.specs.declared.view.DrawnRange.{DrawnRange}
+use Rattle.trace_board.specs.Tracked.{Tracked, nothing_tracked, tracked_after}
 use Rattle.trace_picture.specs.Picture.{head_text}
 use Rattle.trace_picture.specs.Bands.{step_text}
 use Rattle.trace_shapes.specs.Places.{band_of, event_x}
@@ -29,35 +29,35 @@ use Rattle.trace_shapes.proofs.Added.{added_five}
 use Rattle.trace_picture.proofs.Drawing.{IsDrawing, drawing_starts, drawing_room, drawing_steps}
 
 -- so far these events were read and drawn, and where that is wanted it is kept what they nest
-pub record IsRinging (budget : ℕ) (left₀ : Option (List ℕ)) (before : ℕ) (st : Standing) (now : ℕ) (m : Moment) (count : ℕ) (v : View) (told₀ told : Option (List ℕ)) (kept : List ℕ) (k : Kept) (on : Bool) (n : LockGraph) : Type 0 where
-  pub drawing : IsDrawing budget left₀ before st now m count v told₀ told kept k
+pub record IsRinging (budget : ℕ) (left₀ : Option (List ℕ)) (before : ℕ) (st : ReaderState) (now : ℕ) (m : Moment) (count : ℕ) (v : DrawnRange) (reported₀ reported : Option (List ℕ)) (kept : List ℕ) (k : Tracked) (on : Bool) (n : LockGraph) : Type 0 where
+  pub drawing : IsDrawing budget left₀ before st now m count v reported₀ reported kept k
   pub noted : on ≡ true → IsKept drawing.under_way.events (spec_of m) n
 
-pub ringing_starts : (budget : ℕ) (left₀ : Option (List ℕ)) (before now : ℕ) (p p' : Standing) (l : Layout) (m : Moment) (v : View) (told : Option (List ℕ)) (kept : List ℕ) (k : Kept) (on : Bool) (n : LockGraph)
-    → p.rest ≡ left₀ → p.room ≡ budget → p.lines ≡ 0 → TakesHead p p' l → before ≤ now → m.layout ≡ l → spec_of m ≡ at_first l.version → kept ≡ [] ++ head_text l → k ≡ nothing_kept → ((version : Version) → IsKept [] (at_first version) n)
-    → IsRinging budget left₀ before p' now m 0 v told told kept k on n
+pub ringing_starts : (budget : ℕ) (left₀ : Option (List ℕ)) (before now : ℕ) (p p' : ReaderState) (l : Layout) (m : Moment) (v : DrawnRange) (reported : Option (List ℕ)) (kept : List ℕ) (k : Tracked) (on : Bool) (n : LockGraph)
+    → p.rest ≡ left₀ → p.room ≡ budget → p.lines ≡ 0 → TakesHead p p' l → before ≤ now → m.layout ≡ l → spec_of m ≡ at_first l.version → kept ≡ [] ++ head_text l → k ≡ nothing_tracked → ((version : Version) → IsKept [] (at_first version) n)
+    → IsRinging budget left₀ before p' now m 0 v reported reported kept k on n
 unfolding starts_on drawing_starts
-ringing_starts budget left₀ before now p p' l m v told kept k on n rest room lines t le laid first text none empty = record {
-  drawing = drawing_starts budget left₀ before now p p' l m v told kept k rest room lines t le laid first text none;
+ringing_starts budget left₀ before now p p' l m v reported kept k on n rest room lines t le laid first text none empty = record {
+  drawing = drawing_starts budget left₀ before now p p' l m v reported kept k rest room lines t le laid first text none;
   noted = λ wanted. subst (λ (z : Spec). IsKept [] z n) (sym first) (empty l.version);
 }
 
-module _ (budget : ℕ) (left₀ : Option (List ℕ)) (before now : ℕ) (p : Standing) (m : Moment) (count : ℕ) (v : View) (told₀ told : Option (List ℕ)) (kept : List ℕ) (k : Kept) (on : Bool) (n : LockGraph)
-    (r : IsRinging budget left₀ before p now m count v told₀ told kept k on n) where
-  pub ringing_room : (told' : Option (List ℕ)) (kept' : List ℕ) → Flows told told' kept kept' [] → IsRinging budget left₀ before p now m count v told₀ told' kept' k on n
+module _ (budget : ℕ) (left₀ : Option (List ℕ)) (before now : ℕ) (p : ReaderState) (m : Moment) (count : ℕ) (v : DrawnRange) (reported₀ reported : Option (List ℕ)) (kept : List ℕ) (k : Tracked) (on : Bool) (n : LockGraph)
+    (r : IsRinging budget left₀ before p now m count v reported₀ reported kept k on n) where
+  pub ringing_room : (reported' : Option (List ℕ)) (kept' : List ℕ) → Flows reported reported' kept kept' [] → IsRinging budget left₀ before p now m count v reported₀ reported' kept' k on n
   unfolding drawing_room
-  ringing_room told' kept' f = record {
-    drawing = drawing_room budget left₀ before now p m count v told₀ told kept k r.drawing told' kept' f;
+  ringing_room reported' kept' f = record {
+    drawing = drawing_room budget left₀ before now p m count v reported₀ reported kept k r.drawing reported' kept' f;
     noted = r.noted;
   }
 
-  pub ringing_steps : (now' : ℕ) (p' : Standing) (m' : Moment) (e : Event) (kept' : List ℕ) (k' : Kept) (n' : LockGraph) (l : Layout) → l ≡ p.layout → budget < 2 ^ 64 - 1 → TakesEvent p p' e → Acts (spec_of m) e (spec_of m') → m'.layout ≡ m.layout → now ≤ now'
-      → kept' ≡ kept ++ step_text l v k count e → k' ≡ kept_after count e k
+  pub ringing_steps : (now' : ℕ) (p' : ReaderState) (m' : Moment) (e : Event) (kept' : List ℕ) (k' : Tracked) (n' : LockGraph) (l : Layout) → l ≡ p.layout → budget < 2 ^ 64 - 1 → TakesEvent p p' e → Acts (spec_of m) e (spec_of m') → m'.layout ≡ m.layout → now ≤ now'
+      → kept' ≡ kept ++ step_text l v k count e → k' ≡ tracked_after count e k
       → (on ≡ true → (es : List Event) (s s' : Spec) → count ≡ length es → Acts s e s' → IsKept es s n → IsKept (es ++ e ∷ []) s' n')
-      → IsRinging budget left₀ before p' now' m' (count + 1) v told₀ told kept' k' on n'
+      → IsRinging budget left₀ before p' now' m' (count + 1) v reported₀ reported kept' k' on n'
   unfolding step_on drawing_steps
   ringing_steps now' p' m' e kept' k' n' l same_l fits t a same le text turns notes = record {
-    drawing = drawing_steps budget left₀ before now p m count v told₀ told kept k r.drawing now' p' m' e kept' k' l same_l fits t a same le text turns;
+    drawing = drawing_steps budget left₀ before now p m count v reported₀ reported kept k r.drawing now' p' m' e kept' k' l same_l fits t a same le text turns;
     noted = λ wanted. notes wanted r.drawing.under_way.events (spec_of m) (spec_of m') (sym r.drawing.under_way.counted) a (r.noted wanted);
   }
 
@@ -70,7 +70,7 @@ all_near es bound le [] h = tt
 all_near es bound le (n ∷ ns) h = (omega (arith, first_near es n h.0), all_near es bound le ns h.1)
 
 -- the events of a cycle are below the bound that their count is below
-pub cycle_near : (es : List Event) (bound count : ℕ) (ns : List Edge) → TellsCycle es ns → count ≡ length es → count < bound → AllByRecursion (λ (n : Edge). n.place < bound) ns
+pub cycle_near : (es : List Event) (bound count : ℕ) (ns : List Edge) → ReportsCycle es ns → count ≡ length es → count < bound → AllByRecursion (λ (n : Edge). n.place < bound) ns
 cycle_near es bound count ns c counted few = all_near es bound (omega arith) ns c.firsts
 
 -- one of them all
@@ -86,7 +86,7 @@ texts_more f ns k n lt is =
     ∙ ap (λ x. flat_map f (take k ns ++ x ∷ [])) is ∙ ap (flat_map f) (sym (take_more ns k n lt))
 
 -- the pieces of a ring
-pub added_ring : (l : Layout) (v : View) (n : Edge) (x y m k : ℕ) (old a b c d e : List ℕ) → x ≡ event_x (band_of l v n.place) n.place → y ≡ ring_y l v n → m ≡ n.outer.0 → k ≡ n.inner.0
+pub added_ring : (l : Layout) (v : DrawnRange) (n : Edge) (x y m k : ℕ) (old a b c d e : List ℕ) → x ≡ event_x (band_of l v n.place) n.place → y ≡ ring_y l v n → m ≡ n.outer.0 → k ≡ n.inner.0
     → a ≡ old ++ with_number (codes "<rect class='c' width='22' height='15' rx='3' x='") x → b ≡ a ++ with_number (codes "' y='") y → c ≡ b ++ with_number (codes "'><title>m") m
     → d ≡ c ++ with_number (codes " then m") k → e ≡ d ++ codes "</title></rect>\n" → e ≡ old ++ ring_text l v n
 unfolding ring_text

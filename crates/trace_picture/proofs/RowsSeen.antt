@@ -12,11 +12,11 @@ use Rattle.larch_actions.specs.declared.event.Life.TheVariants.{Live, Ended}
 use Rattle.larch_actions.specs.Actions.{Spec, MeetsWhen}
 use Rattle.trace_board.specs.declared.history.Origin.{Origin}
 use Rattle.trace_board.specs.Marks.{marks, marks_of}
-use Rattle.trace_board.specs.Kept.{Kept, kept_since, kept_after, behind, life_in, let_on_by, forked_by}
+use Rattle.trace_board.specs.Tracked.{Tracked, tracked_since, tracked_after, extended, life_in, let_on_by, forked_by}
 use Rattle.trace_board.specs.Laws.{is_live, IsMadeBy, awaited_by}
 use Rattle.trace_board.proofs.Causing.{rows_are_lives, arrows_are_causes, forks_are_births}
 use Rattle.trace_board.proofs.Living.{over_own, over_some}
-use Rattle.trace_shapes.specs.declared.view.View.{View}
+use Rattle.trace_shapes.specs.declared.view.DrawnRange.{DrawnRange}
 use Rattle.trace_shapes.specs.declared.view.Band.{Band}
 use Rattle.trace_shapes.specs.declared.geometry.TheConstants.{LEFT, COLUMN}
 use Rattle.trace_shapes.specs.Places.{in_view, column, band_of, event_x}
@@ -32,14 +32,14 @@ unfolding each_below
 each_same f g h zero = refl
 each_same f g h (suc n) = λ i. each_same f g h n i ++ h n i
 
-row_same : (version : Version) (b : Band) (k : Kept) (s : Spec) → version ≡ Two → ((t : ℕ) → s.life t ≡ life_in version k t) → (t : ℕ) → row_if version b k t ≡ cond (is_live (s.life t)) (row_text b t) []
+row_same : (version : Version) (b : Band) (k : Tracked) (s : Spec) → version ≡ Two → ((t : ℕ) → s.life t ≡ life_in version k t) → (t : ℕ) → row_if version b k t ≡ cond (is_live (s.life t)) (row_text b t) []
 row_same One b k s v h t = absurd (let bad : One ≡ Two = v in cc)
 row_same Two b k s v h t = ap (λ x. cond (is_live x) (row_text b t) []) (sym (h t))
 
 pub rows_stand : RowsStand
 unfolding opening
 rows_stand = λ l v es s two r first.
-    let k = kept_since (behind [] es) in
+    let k = tracked_since (extended [] es) in
     let n = length es in
     let b = band_of l v n in
     let tag = band_tag l (band_number v b) in
@@ -53,7 +53,7 @@ rows_stand = λ l v es s two r first.
     }
 
 -- a part of what the event does to a row is in what it adds
-module _ (l : Layout) (v : View) (k : Kept) (n : ℕ) (e : Event) (seen : in_view v n ≡ true) where
+module _ (l : Layout) (v : DrawnRange) (k : Tracked) (n : ℕ) (e : Event) (seen : in_view v n ≡ true) where
   abbrev b : Band
   b = band_of l v n
 
@@ -69,7 +69,7 @@ module _ (l : Layout) (v : View) (k : Kept) (n : ℕ) (e : Event) (seen : in_vie
       let object = object_if b n e in
       let bars = bars_ended (up_to b n) k (marks e) in
       let arrow = arrow_to b k n e in
-      let cl = closing_after l v (kept_after n e k) n in
+      let cl = closing_after l v (tracked_after n e k) n in
       record {
         before = op ++ num;
         after = rest ++ (mark ++ (object ++ (bars ++ (arrow ++ cl))));
@@ -92,7 +92,7 @@ module _ (l : Layout) (v : View) (k : Kept) (n : ℕ) (e : Event) (seen : in_vie
       let mark = mark_text b n e in
       let object = object_if b n e in
       let bars = bars_ended (up_to b n) k (marks e) in
-      let cl = closing_after l v (kept_after n e k) n in
+      let cl = closing_after l v (tracked_after n e k) n in
       record {
         before = op ++ num ++ life ++ mark ++ object ++ bars ++ before;
         after = after ++ cl;
@@ -110,10 +110,10 @@ until_there : (b : Band) (x t : ℕ) → row_until b x t ≡ (codes "<rect class
 unfolding row_until
 until_there b x t = append_assoc (codes "<rect class='z" ++ row_box b x t) (with_number (codes "'><title>t") t) (codes " has ended</title></rect>\n")
 
-column_there : (l : Layout) (v : View) (n : ℕ) → event_x (band_of l v n) n ≡ LEFT + COLUMN * ((n - v.first) % 50)
+column_there : (l : Layout) (v : DrawnRange) (n : ℕ) → event_x (band_of l v n) n ≡ LEFT + COLUMN * ((n - v.first) % 50)
 column_there l v n = omega arith
 
-box_there : (l : Layout) (v : View) (n : ℕ) (name : List ℕ) (x y t : ℕ) → x ≡ y → name ++ row_box (band_of l v n) x t ≡ row_tag name l y t
+box_there : (l : Layout) (v : DrawnRange) (n : ℕ) (name : List ℕ) (x y t : ℕ) → x ≡ y → name ++ row_box (band_of l v n) x t ≡ row_tag name l y t
 unfolding row_box
 box_there l v n name x y t same = ap (λ z. row_tag name l z t) same
 
@@ -139,7 +139,7 @@ arrow_is b n t x o is other = ap (arrow_if b n t) is ∙ cond-false (o.thread.0 
 
 pub joins_are_drawn : JoinsAreDrawn
 joins_are_drawn = λ l v es s r e may who is seen.
-    let k = kept_since (behind [] es) in
+    let k = tracked_since (extended [] es) in
     let n = length es in
     let t = e.thread.0 in
     let b = band_of l v n in
@@ -147,7 +147,7 @@ joins_are_drawn = λ l v es s r e may who is seen.
     let over = over_some l.version k who.0 (sym (rows_are_lives l.version es s r who.0) ∙ when) in
     let o = over.0 in
     let by : let_on_by k (marks e).waker ≡ Some o = ap (λ a. let_on_by k (marks_of t a).waker) is ∙ over.1 in
-    let other : o.thread.0 ≡ t → ⊥ = λ same. lives_not (ap s.life (sym (sym (over_own (behind [] es) who.0 o over.1) ∙ same)) ∙ when) may.live in
+    let other : o.thread.0 ≡ t → ⊥ = λ same. lives_not (ap s.life (sym (sym (over_own (extended [] es) who.0 o over.1) ∙ same)) ∙ when) may.live in
     let made = subst (λ a. IsMadeBy l.version (awaited_by t a) es s o) is (arrows_are_causes l.version es s r e may o by) in
     let rest = arrow_if b n t (forked_by k t) in
     (o, made, arrow_there l v k n e seen [] (arrow_text (link b n t o)) rest (ap (λ x. x ++ rest) (arrow_is b n t (let_on_by k (marks e).waker) o by other)))
@@ -157,7 +157,7 @@ joins_are_drawn = λ l v es s r e may who is seen.
 
 pub forks_are_drawn : ForksAreDrawn
 forks_are_drawn = λ l v es s r e may o by seen.
-    let k = kept_since (behind [] es) in
+    let k = tracked_since (extended [] es) in
     let n = length es in
     let t = e.thread.0 in
     let b = band_of l v n in

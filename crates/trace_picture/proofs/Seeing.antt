@@ -10,14 +10,14 @@ use Rattle.larch_actions.specs.declared.event.Action.{Action}
 use Rattle.larch_actions.specs.declared.event.Action.TheVariants.{Acquire, Release, Enqueue, Resume, AlertEnqueue, AlertReturn, AlertRaise, Signal, Broadcast, P, V, Alert, TestAlert, AlertPReturn, AlertPRaise, Fork, End, Join}
 use Rattle.larch_actions.specs.Actions.{Spec, MeetsRequires}
 use Rattle.trace_board.specs.declared.history.Origin.{Origin}
-use Rattle.trace_board.specs.declared.history.Effect.TheVariants.{Begins, Ends, Stays}
+use Rattle.trace_board.specs.declared.history.Change.TheVariants.{Begins, Ends, Stays}
 use Rattle.trace_board.specs.declared.rows.Bar.{Bar}
 use Rattle.trace_board.specs.declared.rows.Bar.TheVariants.{Mutex, Semaphore}
-use Rattle.trace_shapes.specs.declared.view.View.{View}
+use Rattle.trace_shapes.specs.declared.view.DrawnRange.{DrawnRange}
 use Rattle.trace_shapes.specs.Looks.{look_of}
 use Rattle.trace_board.specs.Marks.{marks, marks_of}
 use Rattle.trace_board.specs.Rows.{lane_in}
-use Rattle.trace_board.specs.Kept.{Kept, kept_since, kept_after, behind}
+use Rattle.trace_board.specs.Tracked.{Tracked, tracked_since, tracked_after, extended}
 use Rattle.trace_shapes.specs.declared.view.Band.{Band}
 use Rattle.trace_shapes.specs.declared.view.Strip.{Strip}
 use Rattle.trace_shapes.specs.declared.geometry.TheConstants.{LEFT, COLUMN, MARK_TOP, LANE_TOP, LANE, BAR_GAP}
@@ -27,7 +27,7 @@ use Rattle.trace_picture.specs.Lives.{life_row}
 use Rattle.trace_picture.specs.Bands.{opening, closing_after, up_to, strip_of, taken_strip, bar_if, taken_if, bar_ended, taken_ended, wait_ended, bars_ended, arrow_to, event_shapes, step_text}
 use Rattle.trace_board.specs.Laws.{IsSince}
 use Rattle.trace_picture.specs.Seen.{kind_of, MarksDiffer, HasText, upper_of, EventsAreMarked, BarsAreDrawn, TakingsAreDrawn}
-use Rattle.trace_board.proofs.Behind.{length-behind}
+use Rattle.trace_board.proofs.Extended.{length-extended}
 use Rattle.trace_board.proofs.Holding as holding
 
 -- the place of a letter among others
@@ -110,7 +110,7 @@ events_are_marked = λ l v k n e seen.
     let object = object_if b n e in
     let bars = bars_ended (up_to b n) k (marks e) in
     let arrow = arrow_to b k n e in
-    let cl = closing_after l v (kept_after n e k) n in
+    let cl = closing_after l v (tracked_after n e k) n in
     record {
       before = opening l v k n ++ number_text b n ++ life;
       after = rest ++ (end ++ (object ++ (bars ++ (arrow ++ cl))));
@@ -120,7 +120,7 @@ events_are_marked = λ l v k n e seen.
     }
 
 -- the bar that the event ends is in what it adds
-module _ (l : Layout) (v : View) (k : Kept) (n : ℕ) (e : Event) (seen : in_view v n ≡ true) (m : ℕ) (o : Origin) where
+module _ (l : Layout) (v : DrawnRange) (k : Tracked) (n : ℕ) (e : Event) (seen : in_view v n ≡ true) (m : ℕ) (o : Origin) where
   abbrev b : Band
   b = band_of l v n
 
@@ -147,7 +147,7 @@ module _ (l : Layout) (v : View) (k : Kept) (n : ℕ) (e : Event) (seen : in_vie
       let mark = mark_text b n e in
       let object = object_if b n e in
       let arrow = arrow_to b k n e in
-      let cl = closing_after l v (kept_after n e k) n in
+      let cl = closing_after l v (tracked_after n e k) n in
       let strip = strip_of k m o in
       let name = with_number (codes "<rect class='m") m in
       let height = with_number (codes "' height='12' rx='2'><title>m") m in
@@ -177,7 +177,7 @@ module _ (l : Layout) (v : View) (k : Kept) (n : ℕ) (e : Event) (seen : in_vie
       let object = object_if b n e in
       let bars = bar_ended (up_to b n) k (marks e).mutex in
       let arrow = arrow_to b k n e in
-      let cl = closing_after l v (kept_after n e k) n in
+      let cl = closing_after l v (tracked_after n e k) n in
       let strip = taken_strip k m o in
       let name = codes "<rect class='e" in
       let height = with_number (codes "' height='12' rx='2'><title>s") m in
@@ -248,13 +248,13 @@ taken_since n past None b shut free = absurd (true≢false (sym free ∙ shut))
 taken_since n past (Some o) b shut since = (o, refl, since.1)
 
 -- the event from which a bar goes is before
-since_near : (b : Bar) (o : Origin) (es : List Event) → IsSince b o (behind [] es) → o.place < length es
-since_near b o es h = omega (arith, h.place, ap length h.split, length-append h.later (h.taking ∷ h.earlier), length-behind [] es)
+since_near : (b : Bar) (o : Origin) (es : List Event) → IsSince b o (extended [] es) → o.place < length es
+since_near b o es h = omega (arith, h.place, ap length h.split, length-append h.later (h.taking ∷ h.earlier), length-extended [] es)
 
 pub bars_are_drawn : BarsAreDrawn
 bars_are_drawn = λ l v es s r e may m effect seen.
-    let past = behind [] es in
-    let k = kept_since past in
+    let past = extended [] es in
+    let k = tracked_since past in
     let n = length es in
     let t = e.thread.0 in
     let b = band_of l v n in
@@ -276,8 +276,8 @@ bars_are_drawn = λ l v es s r e may m effect seen.
 
 pub takings_are_drawn : TakingsAreDrawn
 takings_are_drawn = λ l v es s r e m effect shut seen.
-    let past = behind [] es in
-    let k = kept_since past in
+    let past = extended [] es in
+    let k = tracked_since past in
     let n = length es in
     let b = band_of l v n in
     let h = taken_since m past (k.taken m) (s.avail m) shut (holding.bars_are_takings l.version es s r m) in

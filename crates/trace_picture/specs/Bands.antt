@@ -5,17 +5,17 @@ use Rattle.larch_actions.specs.declared.event.Layout.{Layout}
 use Rattle.larch_actions.specs.declared.event.Event.{Event}
 use Rattle.larch_actions.specs.declared.event.Broken.{Broken}
 use Rattle.trace_board.specs.declared.history.Origin.{Origin}
-use Rattle.trace_board.specs.declared.history.Effect.{Effect}
-use Rattle.trace_board.specs.declared.history.Effect.TheVariants.{Begins, Ends, Stays}
-use Rattle.trace_board.specs.declared.marks.Marks.{Marks}
+use Rattle.trace_board.specs.declared.history.Change.{Change}
+use Rattle.trace_board.specs.declared.history.Change.TheVariants.{Begins, Ends, Stays}
+use Rattle.trace_board.specs.declared.marks.Effects.{Effects}
 use Rattle.trace_board.specs.declared.rows.Bar.TheVariants.{Mutex, Semaphore}
-use Rattle.trace_shapes.specs.declared.view.View.{View}
+use Rattle.trace_shapes.specs.declared.view.DrawnRange.{DrawnRange}
 use Rattle.trace_shapes.specs.declared.view.Band.{Band}
 use Rattle.trace_shapes.specs.declared.view.Reach.{Reach}
 use Rattle.trace_shapes.specs.declared.view.Strip.{Strip}
 use Rattle.trace_shapes.specs.declared.geometry.TheConstants.{BAND, BAND_GAP, LINES_TOP}
 use Rattle.trace_board.specs.Marks.{marks}
-use Rattle.trace_board.specs.Kept.{Kept, kept_after, let_on_by, forked_by}
+use Rattle.trace_board.specs.Tracked.{Tracked, tracked_after, let_on_by, forked_by}
 use Rattle.trace_board.specs.Rows.{lane_in}
 use Rattle.trace_shapes.specs.Places.{in_view, column, is_open, band_of, band_top, band_height}
 use Rattle.trace_shapes.specs.Shapes.{with_number, each_below, mark_text, object_if, failed_text, bar_text, taken_text, wait_text, number_text}
@@ -24,7 +24,7 @@ use Rattle.trace_picture.specs.Lives.{row_if, life_row, births}
 use Rattle.trace_picture.specs.Overview.{column_text}
 
 -- the number of a band
-abbrev pub band_number : View → Band → ℕ
+abbrev pub band_number : DrawnRange → Band → ℕ
 band_number v b = (b.start - v.first) / BAND
 
 -- the lines at each tenth column, to the lower edge of the last row
@@ -41,7 +41,7 @@ unfoldable pub band_tag : Layout → ℕ → List ℕ
 band_tag l k = with_number (codes "<g id='b") k ++ with_number (codes "' transform='translate(0 ") (band_top l k) ++ codes ")'>\n"
 
 -- a new band with its rows, where the event n begins one
-unfoldable pub opening : Layout → View → Kept → ℕ → List ℕ
+unfoldable pub opening : Layout → DrawnRange → Tracked → ℕ → List ℕ
 opening l v k n =
     if column v n == 0 then
     band_tag l (band_number v (band_of l v n)) ++ each_below (row_if l.version (band_of l v n) k) l.threads ++ lines_text (lines_height l)
@@ -55,19 +55,19 @@ abbrev pub up_to : Band → ℕ → Reach
 up_to b n = record { band = b; to = n + 1; ended = true }
 
 -- what the bars of a mutex and of a semaphore show
-abbrev pub strip_of : Kept → ℕ → Origin → Strip
+abbrev pub strip_of : Tracked → ℕ → Origin → Strip
 strip_of k m o = record { number = m; lane = lane_in (k.rows o.thread.0) (Mutex m); since = o; given = k.given m }
 
-abbrev pub taken_strip : Kept → ℕ → Origin → Strip
+abbrev pub taken_strip : Tracked → ℕ → Origin → Strip
 taken_strip k s o = record { number = s; lane = lane_in (k.rows o.thread.0) (Semaphore s); since = o; given = None }
 
 -- the bar of a mutex, where it is held
-abbrev pub bar_if : Reach → Kept → ℕ → Option Origin → List ℕ
+abbrev pub bar_if : Reach → Tracked → ℕ → Option Origin → List ℕ
 bar_if r k m None = []
 bar_if r k m (Some o) = bar_text r (strip_of k m o)
 
 -- the bar of a semaphore, where it is taken
-abbrev pub taken_if : Reach → Kept → ℕ → Option Origin → List ℕ
+abbrev pub taken_if : Reach → Tracked → ℕ → Option Origin → List ℕ
 taken_if r k s None = []
 taken_if r k s (Some o) = taken_text r (taken_strip k s o)
 
@@ -77,57 +77,57 @@ wait_if r None = []
 wait_if r (Some o) = wait_text r o
 
 -- the bars that go on
-unfoldable pub bars_on : Layout → Reach → Kept → List ℕ
+unfoldable pub bars_on : Layout → Reach → Tracked → List ℕ
 bars_on l r k =
     each_below (λ m. bar_if r k m (k.held m)) l.mutexes ++ each_below (λ s. taken_if r k s (k.taken s)) l.semaphores
     ++ each_below (λ t. wait_if r (k.waits t)) l.threads
 
 -- the end of a band, before the event `to`: the bars that go on, the arrows to the rows that begin in it with no event, and its column of the overview
-unfoldable pub closing : Layout → View → Band → Kept → ℕ → List ℕ
+unfoldable pub closing : Layout → DrawnRange → Band → Tracked → ℕ → List ℕ
 closing l v b k to =
     bars_on l (on_to b to) k ++ births l.version b k to l.threads ++ codes "</g>\n" ++ column_text l k (band_number v b) b.start to
 
 -- the bar that ends with the event n
-abbrev pub bar_ended : Reach → Kept → Effect → List ℕ
+abbrev pub bar_ended : Reach → Tracked → Change → List ℕ
 bar_ended r k (Begins m) = []
 bar_ended r k (Ends m) = bar_if r k m (k.held m)
 bar_ended r k Stays = []
 
 -- the bar of the semaphore that the event n makes available
-abbrev pub taken_ended : Reach → Kept → Effect → List ℕ
+abbrev pub taken_ended : Reach → Tracked → Change → List ℕ
 taken_ended r k (Begins s) = []
 taken_ended r k (Ends s) = taken_if r k s (k.taken s)
 taken_ended r k Stays = []
 
-abbrev pub wait_ended : Reach → Kept → Effect → List ℕ
+abbrev pub wait_ended : Reach → Tracked → Change → List ℕ
 wait_ended r k (Begins t) = []
 wait_ended r k (Ends t) = wait_if r (k.waits t)
 wait_ended r k Stays = []
 
 -- the end of the band of the event n, where it is full or the part that is drawn ends
-unfoldable pub closing_after : Layout → View → Kept → ℕ → List ℕ
+unfoldable pub closing_after : Layout → DrawnRange → Tracked → ℕ → List ℕ
 closing_after l v k n = if is_open v (n + 1) then [] else closing l v (band_of l v n) k (n + 1)
 
 -- the bars that the event n ends
-abbrev pub bars_ended : Reach → Kept → Marks → List ℕ
+abbrev pub bars_ended : Reach → Tracked → Effects → List ℕ
 bars_ended r k m = bar_ended r k m.mutex ++ taken_ended r k m.semaphore ++ wait_ended r k m.wait
 
 -- the arrow to the event n, where another thread let its thread go on, and the one to a thread's first event from its fork
-abbrev pub arrow_to : Band → Kept → ℕ → Event → List ℕ
+abbrev pub arrow_to : Band → Tracked → ℕ → Event → List ℕ
 arrow_to b k n e = arrow_if b n e.thread.0 (let_on_by k (marks e).waker) ++ arrow_if b n e.thread.0 (forked_by k e.thread.0)
 
 -- the event n: the row that it begins or ends, its mark and the number of its object, the bars that it ends, and the arrows to it
-unfoldable pub event_shapes : Band → Kept → ℕ → Event → List ℕ
+unfoldable pub event_shapes : Band → Tracked → ℕ → Event → List ℕ
 event_shapes b k n e =
     number_text b n ++ life_row b n (marks e).life ++ mark_text b n e ++ object_if b n e ++ bars_ended (up_to b n) k (marks e) ++ arrow_to b k n e
 
 -- all that the event n adds, where it is drawn
-unfoldable pub step_text : Layout → View → Kept → ℕ → Event → List ℕ
+unfoldable pub step_text : Layout → DrawnRange → Tracked → ℕ → Event → List ℕ
 step_text l v k n e =
-    if in_view v n then opening l v k n ++ event_shapes (band_of l v n) k n e ++ closing_after l v (kept_after n e k) n else []
+    if in_view v n then opening l v k n ++ event_shapes (band_of l v n) k n e ++ closing_after l v (tracked_after n e k) n else []
 
 -- all that an event that fails adds, where it is drawn: it ends its band
-unfoldable pub failing_text : Layout → View → Kept → ℕ → Event → Broken → List ℕ
+unfoldable pub failing_text : Layout → DrawnRange → Tracked → ℕ → Event → Broken → List ℕ
 failing_text l v k n e why =
     if in_view v n then
     opening l v k n ++ (number_text (band_of l v n) n ++ failed_text (band_of l v n) n e why)

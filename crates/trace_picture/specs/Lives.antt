@@ -4,9 +4,9 @@ use Rattle.std.specs.declared.option.Option.{Option}
 use Rattle.larch_actions.specs.declared.event.Version.{Version}
 use Rattle.larch_actions.specs.declared.event.Version.TheVariants.{One, Two}
 use Rattle.trace_board.specs.declared.history.Origin.{Origin}
-use Rattle.trace_board.specs.declared.history.Effect.{Effect}
-use Rattle.trace_board.specs.declared.history.Effect.TheVariants.{Begins, Ends, Stays}
-use Rattle.trace_board.specs.Kept.{Kept, life_in, forked_by}
+use Rattle.trace_board.specs.declared.history.Change.{Change}
+use Rattle.trace_board.specs.declared.history.Change.TheVariants.{Begins, Ends, Stays}
+use Rattle.trace_board.specs.Tracked.{Tracked, life_in, forked_by}
 use Rattle.trace_board.specs.Laws.{is_live}
 use Rattle.trace_shapes.specs.declared.view.Band.{Band}
 use Rattle.trace_shapes.specs.declared.view.Link.{Link}
@@ -16,11 +16,11 @@ use Rattle.trace_shapes.specs.Shapes.{with_number, each_below, place_text, row_n
 use Rattle.trace_shapes.specs.Arrows.{link, bow_text, bow_x, bow_y, bow_head, origin_text}
 
 -- the thread t has a row at the start of a band: it lives
-abbrev pub has_row : Version → Kept → ℕ → Bool
+abbrev pub has_row : Version → Tracked → ℕ → Bool
 has_row One k t = true
 has_row Two k t = is_live (life_in Two k t)
 
-abbrev pub row_if : Version → Band → Kept → ℕ → List ℕ
+abbrev pub row_if : Version → Band → Tracked → ℕ → List ℕ
 row_if version b k t = if has_row version k t then row_text b t else []
 
 -- the box of a row from this point on
@@ -36,7 +36,7 @@ unfoldable pub row_until : Band → ℕ → ℕ → List ℕ
 row_until b x t = codes "<rect class='z" ++ row_box b x t ++ with_number (codes "'><title>t") t ++ codes " has ended</title></rect>\n"
 
 -- what the event n does to a row: it begins in its column, or ends after it
-abbrev pub life_row : Band → ℕ → Effect → List ℕ
+abbrev pub life_row : Band → ℕ → Change → List ℕ
 life_row b n (Begins t) = row_from b (event_x b n) t
 life_row b n (Ends t) = row_until b (event_x b n + COLUMN) t
 life_row b n Stays = []
@@ -55,6 +55,6 @@ birth_if b to t None = []
 birth_if b to t (Some o) = if nat_le b.start o.place then birth_text (link b to t o) else []
 
 -- the arrows to the rows of threads that have had no event
-abbrev pub births : Version → Band → Kept → ℕ → ℕ → List ℕ
+abbrev pub births : Version → Band → Tracked → ℕ → ℕ → List ℕ
 births One b k to threads = []
 births Two b k to threads = each_below (λ t. birth_if b to t (forked_by k t)) threads

@@ -3,7 +3,7 @@ use Rattle.std.specs.Prelude.{ℕ, ◌+◌, ◌*◌, ◌/◌, ◌%◌, if◌then
 use Rattle.std.specs.declared.option.Option.{Option}
 use Rattle.trace_board.specs.declared.holds.Hold.{Hold}
 use Rattle.trace_board.specs.Holds.{held_for}
-use Rattle.trace_board.specs.Kept.{Kept, longest_in}
+use Rattle.trace_board.specs.Tracked.{Tracked, longest_in}
 use Rattle.trace_shapes.specs.declared.geometry.TheConstants.{LEFT, LINE, NAME_LEFT, NAME_LINE}
 use Rattle.trace_shapes.specs.Shapes.{with_number, each_below, place_text}
 
@@ -17,9 +17,9 @@ hold_text h =
     with_number (codes "longest: t") h.since.thread.0 ++ with_number (codes ", events: ") (held_for h) ++ with_number (codes ", ") h.since.place
     ++ hold_end h
 
-abbrev pub told_hold : Option Hold → List ℕ
-told_hold None = codes "never held"
-told_hold (Some h) = hold_text h
+abbrev pub reported_hold : Option Hold → List ℕ
+reported_hold None = codes "never held"
+reported_hold (Some h) = hold_text h
 
 -- where the line of the mutex m stands, below the bands
 abbrev pub line_x : ℕ → ℕ
@@ -38,10 +38,10 @@ sample_text low m =
 unfoldable pub hold_line : ℕ → ℕ → Option Hold → List ℕ
 hold_line low m h =
     sample_text low m ++ (codes "<text class='t" ++ place_text (line_x m + 40) (line_y low m + NAME_LINE))
-    ++ (with_number (codes "'><title>m") m ++ codes "</title>") ++ told_hold h ++ codes "</text>\n"
+    ++ (with_number (codes "'><title>m") m ++ codes "</title>") ++ reported_hold h ++ codes "</text>\n"
 
 -- the lines of all mutexes, after n events
-abbrev pub holds_text : ℕ → Kept → ℕ → ℕ → List ℕ
+abbrev pub holds_text : ℕ → Tracked → ℕ → ℕ → List ℕ
 holds_text mutexes k n low = each_below (λ m. hold_line low m (longest_in k n m)) mutexes
 
 -- how high these lines are

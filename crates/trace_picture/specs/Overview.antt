@@ -2,8 +2,8 @@
 -- shows it where there are more than ten bands, above them: it moves them down.
 use Rattle.std.specs.Prelude.{ℕ, ◌+◌, ◌-◌, ◌*◌, ◌/◌, ◌%◌, nat_lt, if◌then◌else◌, List, [], ◌++◌, codes}
 use Rattle.larch_actions.specs.declared.event.Layout.{Layout}
-use Rattle.trace_board.specs.Kept.{Kept, has_run, was_held}
-use Rattle.trace_shapes.specs.declared.view.View.{View}
+use Rattle.trace_board.specs.Tracked.{Tracked, has_run, was_held}
+use Rattle.trace_shapes.specs.declared.view.DrawnRange.{DrawnRange}
 use Rattle.trace_shapes.specs.Places.{bands}
 use Rattle.trace_shapes.specs.Shapes.{with_number, each_below, place_text}
 
@@ -23,11 +23,11 @@ unfoldable pub cell_text : ℕ → ℕ → List ℕ
 cell_text x y = place_text x y ++ codes "' width='11' height='3'/>\n"
 
 -- the cell of the thread t, where it had an event from the event `start` on
-abbrev pub ran_cell : Kept → ℕ → ℕ → ℕ → ℕ → List ℕ
+abbrev pub ran_cell : Tracked → ℕ → ℕ → ℕ → ℕ → List ℕ
 ran_cell k start x y t = if has_run k start t then codes "<rect class='f" ++ cell_text x (y + 4 * t) else []
 
 -- the cell of the mutex m, below the threads, where it was held at some time since
-abbrev pub held_cell : Kept → ℕ → ℕ → ℕ → ℕ → List ℕ
+abbrev pub held_cell : Tracked → ℕ → ℕ → ℕ → ℕ → List ℕ
 held_cell k start x y m = if was_held k start m then with_number (codes "<rect class='m") m ++ cell_text x (y + 4 * m) else []
 
 -- the link of a column to its band, and which events those are
@@ -37,17 +37,17 @@ link_text band start to =
     ++ codes "</title>\n"
 
 -- the column of the band that begins at `start`, up to the event before `to`
-unfoldable pub column_text : Layout → Kept → ℕ → ℕ → ℕ → List ℕ
+unfoldable pub column_text : Layout → Tracked → ℕ → ℕ → ℕ → List ℕ
 column_text l k band start to =
     link_text band start to ++ each_below (ran_cell k start (over_x band) (over_y l band)) l.threads
     ++ each_below (held_cell k start (over_x band) (over_y l band + 4 * l.threads + 4)) l.mutexes ++ codes "</a>\n"
 
 -- how much higher the overview makes the picture of n events
-abbrev pub over_height : Layout → View → ℕ → ℕ
+abbrev pub over_height : Layout → DrawnRange → ℕ → ℕ
 over_height l v n = if nat_lt 10 (bands v n) then (bands v n + 99) / 100 * columns_height l + 24 else 0
 
 -- what shows the overview, and moves the rest down by its height
-abbrev pub over_style : Layout → View → ℕ → List ℕ
+abbrev pub over_style : Layout → DrawnRange → ℕ → List ℕ
 over_style l v n =
     if nat_lt 10 (bands v n) then
     with_number (codes "px}.w{transform:translate(0,") (over_height l v n)

@@ -3,8 +3,8 @@ use Rattle.std.specs.Prelude.{ℕ, ◌+◌, ◌-◌, nat_lt, min, if◌then◌el
 use Rattle.larch_actions.specs.declared.event.Layout.{Layout}
 use Rattle.larch_actions.specs.declared.event.Event.{Event}
 use Rattle.larch_actions.specs.declared.event.Broken.{Broken}
-use Rattle.trace_shapes.specs.declared.view.View.{View}
-use Rattle.trace_board.specs.Kept.{Kept, kept_since, behind}
+use Rattle.trace_shapes.specs.declared.view.DrawnRange.{DrawnRange}
+use Rattle.trace_board.specs.Tracked.{Tracked, tracked_since, extended}
 use Rattle.trace_shapes.specs.Places.{is_open, band_of, height_of}
 use Rattle.trace_shapes.specs.Shapes.{with_number, each_below, line_of, clause_word}
 use Rattle.trace_shapes.specs.Legend.{entry_at, life_legend}
@@ -45,22 +45,22 @@ head_text l =
     style_text ++ pattern_text ++ (each_below entry_at 16 ++ other_words) ++ many_if l.mutexes ++ over_words ++ life_legend l.version
 
 -- what events add after this past, in order
-unfoldable pub steps_text : Layout → View → List Event → List Event → List ℕ
+unfoldable pub steps_text : Layout → DrawnRange → List Event → List Event → List ℕ
 steps_text l v past [] = []
-steps_text l v past (e ∷ es) = step_text l v (kept_since past) (length past) e ++ steps_text l v (e ∷ past) es
+steps_text l v past (e ∷ es) = step_text l v (tracked_since past) (length past) e ++ steps_text l v (e ∷ past) es
 
 -- the head, and what all these events add
-unfoldable pub prefix_picture : Layout → View → List Event → List ℕ
+unfoldable pub prefix_picture : Layout → DrawnRange → List Event → List ℕ
 prefix_picture l v es = head_text l ++ steps_text l v [] es
 
 -- which of the first n events were drawn
-unfoldable pub part_text : View → ℕ → List ℕ
+unfoldable pub part_text : DrawnRange → ℕ → List ℕ
 part_text v n =
     if nat_lt v.first (min n v.end) then with_number (codes ", drawn: ") v.first ++ with_number (codes " to ") (min n v.end - 1)
     else codes ", drawn: none"
 
 -- the note, the lines of the mutexes, the height, what shows the overview, and the last tag
-unfoldable pub end_text : Layout → View → Kept → ℕ → List ℕ → List ℕ
+unfoldable pub end_text : Layout → DrawnRange → Tracked → ℕ → List ℕ → List ℕ
 end_text l v k n note =
     with_number (codes "<text x='44' y='") (height_of l v n + 14) ++ (codes "'>" ++ note) ++ part_text v n ++ codes "</text>\n"
     ++ holds_text l.mutexes k n (height_of l v n)
@@ -68,22 +68,22 @@ end_text l v k n note =
     ++ over_style l v n)
 
 -- the end of the last band after n events, where it is not full
-unfoldable pub closing_if : Layout → View → Kept → ℕ → List ℕ
+unfoldable pub closing_if : Layout → DrawnRange → Tracked → ℕ → List ℕ
 closing_if l v k n = if is_open v n then closing l v (band_of l v n) k n else []
 
-abbrev pub last_closing : Layout → View → List Event → List ℕ
-last_closing l v es = closing_if l v (kept_since (behind [] es)) (length es)
+abbrev pub last_closing : Layout → DrawnRange → List Event → List ℕ
+last_closing l v es = closing_if l v (tracked_since (extended [] es)) (length es)
 
 -- which clause the event n fails, and its line
 unfoldable pub failed_note : ℕ → Event → Broken → List ℕ
 failed_note n e why = codes "illegal, fails " ++ clause_word why ++ codes ": " ++ line_of n e
 
 -- the end of the picture of n events, with these words and their count on its last line
-abbrev pub ending : Layout → View → Kept → ℕ → List ℕ → List ℕ
+abbrev pub ending : Layout → DrawnRange → Tracked → ℕ → List ℕ → List ℕ
 ending l v k n words = closing_if l v k n ++ end_text l v k n (with_number words n)
 
 -- the event n, which fails, and the end of the picture
-abbrev pub failed_ending : Layout → View → Kept → ℕ → Event → Broken → List ℕ
+abbrev pub failed_ending : Layout → DrawnRange → Tracked → ℕ → Event → Broken → List ℕ
 failed_ending l v k n e why = failing_text l v k n e why ++ end_text l v k (n + 1) (failed_note n e why)
 
 abbrev pub legal_words : List ℕ
@@ -93,13 +93,13 @@ abbrev pub cut_words : List ℕ
 cut_words = codes "the input can't be read further, events: "
 
 -- the picture of a trace up to the event that fails
-unfoldable pub failed_picture : Layout → View → List Event → Event → Broken → List ℕ
+unfoldable pub failed_picture : Layout → DrawnRange → List Event → Event → Broken → List ℕ
 failed_picture l v es e why =
-    prefix_picture l v es ++ (failing_text l v (kept_since (behind [] es)) (length es) e why
-    ++ end_text l v (kept_since (behind [] es)) (length es + 1) (failed_note (length es) e why))
+    prefix_picture l v es ++ (failing_text l v (tracked_since (extended [] es)) (length es) e why
+    ++ end_text l v (tracked_since (extended [] es)) (length es + 1) (failed_note (length es) e why))
 
 -- the picture of the events of an input that can't be read further
-unfoldable pub cut_picture : Layout → View → List Event → List ℕ
+unfoldable pub cut_picture : Layout → DrawnRange → List Event → List ℕ
 cut_picture l v es =
-    prefix_picture l v es ++ (last_closing l v es ++ end_text l v (kept_since (behind [] es)) (length es)
+    prefix_picture l v es ++ (last_closing l v es ++ end_text l v (tracked_since (extended [] es)) (length es)
     (with_number (codes "the input can't be read further, events: ") (length es)))

@@ -9,31 +9,31 @@ use Rattle.larch_actions.specs.declared.event.Event.{Event}
 use Rattle.larch_actions.specs.Actions.{Spec}
 use Rattle.lock_order.specs.declared.answer.Edge.{Edge}
 use Rattle.lock_order.specs.declared.lock_graph.LockGraph.{LockGraph}
-use Rattle.lock_order.specs.Order.{HasCycle, TellsCycle}
+use Rattle.lock_order.specs.Order.{HasCycle, ReportsCycle}
 use Rattle.lock_order.specs.Kept.{IsKept}
-use Rattle.trace_shapes.specs.declared.view.View.{View}
-use Rattle.trace_board.specs.Kept.{Kept, kept_since, behind}
+use Rattle.trace_shapes.specs.declared.view.DrawnRange.{DrawnRange}
+use Rattle.trace_board.specs.Tracked.{Tracked, tracked_since, extended}
 use Rattle.trace_shapes.specs.Places.{in_view, band_of, event_x, mark_y, band_top}
 use Rattle.trace_shapes.specs.Shapes.{with_number}
 use Rattle.trace_picture.specs.Bands.{band_number}
 use Rattle.trace_picture.specs.Picture.{closing_if, end_text, ending, legal_words, prefix_picture}
 
 -- the upper edge of the mark of the event by which the inner mutex was got while the outer one was held
-abbrev pub ring_y : Layout → View → Edge → ℕ
+abbrev pub ring_y : Layout → DrawnRange → Edge → ℕ
 ring_y l v n = band_top l (band_number v (band_of l v n.place)) + mark_y (band_of l v n.place) n.thread.0
 
 -- an edge of this mark, with the two mutexes as its title
-unfoldable pub ring_text : Layout → View → Edge → List ℕ
+unfoldable pub ring_text : Layout → DrawnRange → Edge → List ℕ
 ring_text l v n =
     with_number (codes "<rect class='c' width='22' height='15' rx='3' x='") (event_x (band_of l v n.place) n.place)
     ++ with_number (codes "' y='") (ring_y l v n) ++ with_number (codes "'><title>m") n.outer.0
     ++ with_number (codes " then m") n.inner.0 ++ codes "</title></rect>\n"
 
 -- the ring, where the event is drawn
-abbrev pub ring_if : Layout → View → Edge → List ℕ
+abbrev pub ring_if : Layout → DrawnRange → Edge → List ℕ
 ring_if l v n = if in_view v n.place then ring_text l v n else []
 
-abbrev pub rings_text : Layout → View → List Edge → List ℕ
+abbrev pub rings_text : Layout → DrawnRange → List Edge → List ℕ
 rings_text l v ns = flat_map (ring_if l v) ns
 
 abbrev pub ringed_words : List ℕ
@@ -43,23 +43,23 @@ abbrev pub no_cycle_words : List ℕ
 no_cycle_words = codes "legal, no lock-order cycle, events: "
 
 -- the end of the picture of n events, with rings around the events of this cycle
-abbrev pub ringed_ending : Layout → View → Kept → ℕ → List Edge → List ℕ
+abbrev pub ringed_ending : Layout → DrawnRange → Tracked → ℕ → List Edge → List ℕ
 ringed_ending l v k n ns = closing_if l v k n ++ rings_text l v ns ++ end_text l v k n (with_number ringed_words n)
 
 -- A cycle of the events is ringed, or they have none and this is said.
-abbrev pub ShowsOrdered : Layout → View → Kept → ℕ → List Event → List ℕ → Type 0
+abbrev pub ShowsOrdered : Layout → DrawnRange → Tracked → ℕ → List Event → List ℕ → Type 0
 ShowsOrdered l v k n es text =
-    ((ns : List Edge) × TellsCycle es ns × (text ≡ ringed_ending l v k n ns)) ⊎ ((¬ HasCycle es) × (text ≡ ending l v k n no_cycle_words))
+    ((ns : List Edge) × ReportsCycle es ns × (text ≡ ringed_ending l v k n ns)) ⊎ ((¬ HasCycle es) × (text ≡ ending l v k n no_cycle_words))
 
 -- the end of the picture of n legal events, where the lock order is wanted or not
-abbrev pub IsEnding : Bool → Layout → View → Kept → ℕ → List Event → List ℕ → Type 0
+abbrev pub IsEnding : Bool → Layout → DrawnRange → Tracked → ℕ → List Event → List ℕ → Type 0
 IsEnding false l v k n es text = text ≡ ending l v k n legal_words
 IsEnding true l v k n es text = ShowsOrdered l v k n es text
 
 -- the whole picture of a legal trace
-abbrev pub IsLegalPicture : Layout → View → List Event → List ℕ → Type 0
+abbrev pub IsLegalPicture : Layout → DrawnRange → List Event → List ℕ → Type 0
 IsLegalPicture l v es text =
-    (end : List ℕ) × IsEnding v.ordered l v (kept_since (behind [] es)) (length es) es end × (text ≡ prefix_picture l v es ++ end)
+    (end : List ℕ) × IsEnding v.ordered l v (tracked_since (extended [] es)) (length es) es end × (text ≡ prefix_picture l v es ++ end)
 
 -- it is kept what n events nest
 abbrev pub AreNoted : LockGraph → ℕ → Type 0
@@ -67,4 +67,4 @@ AreNoted k n = (es : List Event) × (now : Spec) × IsKept es now k × (n ≡ le
 
 -- the sink got this text, or a prefix of it where it failed
 abbrev pub Sends : {T E : Type 0} → Result T E → Option (List ℕ) → Option (List ℕ) → List ℕ → Type 0
-Sends r told told' text = OnOk r (Appends told told' text) × OnErr r (AppendsPrefix told told' text)
+Sends r reported reported' text = OnOk r (Appends reported reported' text) × OnErr r (AppendsPrefix reported reported' text)

@@ -8,13 +8,13 @@ use Rattle.larch_actions.specs.declared.event.Action.{Action}
 use Rattle.larch_actions.specs.declared.event.Action.TheVariants.{Acquire, Release, Enqueue, Resume, AlertEnqueue, AlertReturn, AlertRaise, Signal, Broadcast, P, V, Alert, TestAlert, AlertPReturn, AlertPRaise, Fork, End, Join}
 use Rattle.larch_actions.specs.Actions.{Spec, IsRun, MayAct}
 use Rattle.trace_board.specs.declared.history.Origin.{Origin}
-use Rattle.trace_board.specs.declared.history.Effect.TheVariants.{Ends}
+use Rattle.trace_board.specs.declared.history.Change.TheVariants.{Ends}
 use Rattle.trace_board.specs.declared.rows.Bar.{Bar}
 use Rattle.trace_board.specs.declared.rows.Bar.TheVariants.{Mutex, Semaphore}
-use Rattle.trace_shapes.specs.declared.view.View.{View}
+use Rattle.trace_shapes.specs.declared.view.DrawnRange.{DrawnRange}
 use Rattle.trace_shapes.specs.Looks.{look_of}
 use Rattle.trace_board.specs.Marks.{marks, marks_of}
-use Rattle.trace_board.specs.Kept.{Kept, kept_since, behind, longest_in, forked_by}
+use Rattle.trace_board.specs.Tracked.{Tracked, tracked_since, extended, longest_in, forked_by}
 use Rattle.trace_shapes.specs.declared.view.Band.{Band}
 use Rattle.trace_shapes.specs.declared.geometry.TheConstants.{BAND, COLUMN, LEFT, AXIS, MARK_TOP, LANE_TOP, LANE, BAR_GAP, ROW_RIGHT}
 use Rattle.trace_shapes.specs.Places.{in_view, column, band_of, lanes_of, row_step, row_height, bar_x, bar_width}
@@ -59,7 +59,7 @@ pub record HasText (whole part : List ℕ) : Type 0 where
   pub text : whole ≡ before ++ part ++ after
 
 -- the left edge of the column of the event n, and the upper edge of the row of the thread t
-abbrev pub left_of : View → ℕ → ℕ
+abbrev pub left_of : DrawnRange → ℕ → ℕ
 left_of v n = LEFT + COLUMN * ((n - v.first) % BAND)
 
 abbrev pub upper_of : Layout → ℕ → ℕ
@@ -68,7 +68,7 @@ upper_of l t = AXIS + row_step (lanes_of l) * t
 -- Each event in view has its mark, by the letter of its action, in its column of the band and in the row of its thread.
 abbrev pub EventsAreMarked : Type 0
 EventsAreMarked =
-    (l : Layout) (v : View) (k : Kept) (n : ℕ) (e : Event) → in_view v n ≡ true
+    (l : Layout) (v : DrawnRange) (k : Tracked) (n : ℕ) (e : Event) → in_view v n ≡ true
     → HasText (step_text l v k n e) ((codes "<use href='#" ++ (look_of (marks e).mark).letter ∷ [])
     ++ place_text (left_of v n) (upper_of l e.thread.0 + MARK_TOP))
 
@@ -86,24 +86,24 @@ pub record IsBarTo (whole : List ℕ) (past : List Event) (name : List ℕ) (x :
 -- Each event of a run that gives a mutex back ends its bar, in the row of its thread, where the event is in view.
 abbrev pub BarsAreDrawn : Type 0
 BarsAreDrawn =
-    (l : Layout) (v : View) (es : List Event) (s : Spec) → IsRun l.version es s → (e : Event) → MayAct s e → (m : ℕ)
+    (l : Layout) (v : DrawnRange) (es : List Event) (s : Spec) → IsRun l.version es s → (e : Event) → MayAct s e → (m : ℕ)
     → (marks e).mutex ≡ Ends m → in_view v (length es) ≡ true
-    → (w : IsBarTo (step_text l v (kept_since (behind [] es)) (length es) e) (behind [] es) (with_number (codes "<rect class='m") m)
+    → (w : IsBarTo (step_text l v (tracked_since (extended [] es)) (length es) e) (extended [] es) (with_number (codes "<rect class='m") m)
     (Mutex m) l (band_of l v (length es)) (length es)) × (w.o.thread.0 ≡ e.thread.0)
 
 -- Each event that makes a semaphore available which wasn't ends its bar, in the row of the thread that took it, where the event is in view.
 abbrev pub TakingsAreDrawn : Type 0
 TakingsAreDrawn =
-    (l : Layout) (v : View) (es : List Event) (s : Spec) → IsRun l.version es s → (e : Event) → (k : ℕ) → (marks e).semaphore ≡ Ends k
+    (l : Layout) (v : DrawnRange) (es : List Event) (s : Spec) → IsRun l.version es s → (e : Event) → (k : ℕ) → (marks e).semaphore ≡ Ends k
     → s.avail k ≡ false → in_view v (length es) ≡ true
-    → IsBarTo (step_text l v (kept_since (behind [] es)) (length es) e) (behind [] es) (codes "<rect class='e") (Semaphore k)
+    → IsBarTo (step_text l v (tracked_since (extended [] es)) (length es) e) (extended [] es) (codes "<rect class='e") (Semaphore k)
     l (band_of l v (length es)) (length es)
 
 -- In version two a band begins with the rows of the threads that live, and with no others.
 abbrev pub RowsStand : Type 0
 RowsStand =
-    (l : Layout) (v : View) (es : List Event) (s : Spec) → l.version ≡ Two → IsRun l.version es s → column v (length es) ≡ 0
-    → HasText (opening l v (kept_since (behind [] es)) (length es)) (each_below
+    (l : Layout) (v : DrawnRange) (es : List Event) (s : Spec) → l.version ≡ Two → IsRun l.version es s → column v (length es) ≡ 0
+    → HasText (opening l v (tracked_since (extended [] es)) (length es)) (each_below
     (λ t. if is_live (s.life t) then row_text (band_of l v (length es)) t else []) l.threads)
 
 -- a tag that begins so, over the row of the thread t from x to the right edge
@@ -115,38 +115,38 @@ row_tag name l x t =
 -- Each fork in view begins the row of the thread that it forks, in its own column, up to the right edge.
 abbrev pub RowsBegin : Type 0
 RowsBegin =
-    (l : Layout) (v : View) (k : Kept) (n : ℕ) (e : Event) (who : ThreadId) → e.action ≡ Fork who → in_view v n ≡ true
+    (l : Layout) (v : DrawnRange) (k : Tracked) (n : ℕ) (e : Event) (who : ThreadId) → e.action ≡ Fork who → in_view v n ≡ true
     → HasText (step_text l v k n e) (row_tag (codes "<rect class='r") l (left_of v n) who.0)
 
 -- Each end in view cuts the row of its thread off after its own column, up to the right edge.
 abbrev pub RowsEnd : Type 0
 RowsEnd =
-    (l : Layout) (v : View) (k : Kept) (n : ℕ) (e : Event) → e.action ≡ End → in_view v n ≡ true
+    (l : Layout) (v : DrawnRange) (k : Tracked) (n : ℕ) (e : Event) → e.action ≡ End → in_view v n ≡ true
     → HasText (step_text l v k n e) (row_tag (codes "<rect class='z") l (left_of v n + COLUMN) e.thread.0)
 
 -- Each join in view has an arrow from the end of the thread that it joins.
 abbrev pub JoinsAreDrawn : Type 0
 JoinsAreDrawn =
-    (l : Layout) (v : View) (es : List Event) (s : Spec) → IsRun l.version es s → (e : Event) → MayAct s e → (who : ThreadId)
+    (l : Layout) (v : DrawnRange) (es : List Event) (s : Spec) → IsRun l.version es s → (e : Event) → MayAct s e → (who : ThreadId)
     → e.action ≡ Join who → in_view v (length es) ≡ true
     → (o : Origin) × IsMadeBy l.version (λ z. is_ended (z.life who.0)) es s o
-    × HasText (step_text l v (kept_since (behind [] es)) (length es) e) (arrow_text (link (band_of l v (length es)) (length es) e.thread.0 o))
+    × HasText (step_text l v (tracked_since (extended [] es)) (length es) e) (arrow_text (link (band_of l v (length es)) (length es) e.thread.0 o))
 
 -- The first event of each thread that was forked has, in view, an arrow from its fork.
 abbrev pub ForksAreDrawn : Type 0
 ForksAreDrawn =
-    (l : Layout) (v : View) (es : List Event) (s : Spec) → IsRun l.version es s → (e : Event) → MayAct s e → (o : Origin)
-    → forked_by (kept_since (behind [] es)) e.thread.0 ≡ Some o → in_view v (length es) ≡ true
-    → IsMadeBy l.version (λ z. is_live (z.life e.thread.0)) es s o × (HasEvent e.thread.0 0 (behind [] es) → ⊥)
-    × HasText (step_text l v (kept_since (behind [] es)) (length es) e) (arrow_text (link (band_of l v (length es)) (length es) e.thread.0 o))
+    (l : Layout) (v : DrawnRange) (es : List Event) (s : Spec) → IsRun l.version es s → (e : Event) → MayAct s e → (o : Origin)
+    → forked_by (tracked_since (extended [] es)) e.thread.0 ≡ Some o → in_view v (length es) ≡ true
+    → IsMadeBy l.version (λ z. is_live (z.life e.thread.0)) es s o × (HasEvent e.thread.0 0 (extended [] es) → ⊥)
+    × HasText (step_text l v (tracked_since (extended [] es)) (length es) e) (arrow_text (link (band_of l v (length es)) (length es) e.thread.0 o))
 
 -- The last lines of a picture show the longest hold of each mutex: by whom, how many events, from which event to which, or that there is none.
-abbrev pub HoldsAreTold : Type 0
-HoldsAreTold =
-    (l : Layout) (v : View) (past : List Event) (n : ℕ) (note : List ℕ) (m : ℕ) → m < l.mutexes
-    → MatchOption (longest_in (kept_since past) n m)
-    (HasText (end_text l v (kept_since past) n note) ((with_number (codes "'><title>m") m ++ codes "</title>") ++ codes "never held"))
-    (λ h. HasText (end_text l v (kept_since past) n note) ((with_number (codes "'><title>m") m ++ codes "</title>")
+abbrev pub HoldsAreReported : Type 0
+HoldsAreReported =
+    (l : Layout) (v : DrawnRange) (past : List Event) (n : ℕ) (note : List ℕ) (m : ℕ) → m < l.mutexes
+    → MatchOption (longest_in (tracked_since past) n m)
+    (HasText (end_text l v (tracked_since past) n note) ((with_number (codes "'><title>m") m ++ codes "</title>") ++ codes "never held"))
+    (λ h. HasText (end_text l v (tracked_since past) n note) ((with_number (codes "'><title>m") m ++ codes "</title>")
     ++ (with_number (codes "longest: t") h.since.thread.0 ++ with_number (codes ", events: ") (h.last - h.since.place)
     ++ with_number (codes ", ") h.since.place
     ++ (if h.ended then with_number (codes " to ") h.last else codes " on"))))

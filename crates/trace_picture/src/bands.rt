@@ -2,7 +2,7 @@
 ghost use Rattle.std.specs.Prelude.{◌≡◌, ◌+◌, ◌-◌, ◌*◌, ◌<◌, ◌≤◌, ◌^◌, ◌++◌, length, take, codes, false, ℕ, None};
 ghost use Rattle.larch_actions.specs.Layout.{IsLawful, HasNames};
 ghost use Rattle.trace_board.specs.History.{entry_of, IsWithin};
-ghost use Rattle.trace_board.specs.Kept.{kept_of, kept_after, IsNoted};
+ghost use Rattle.trace_board.specs.Tracked.{tracked_of, tracked_after, IsNoted};
 ghost use Rattle.trace_board.specs.Marks.{marks};
 ghost use Rattle.trace_shapes.specs.Places.{in_view, column, is_open, band_of, first_top, band_height, band_top};
 ghost use Rattle.trace_shapes.specs.Shapes.{with_number, each_below, number_text, object_if, failed_text};
@@ -11,9 +11,9 @@ ghost use Rattle.trace_picture.specs.Bands.{band_number, lines_height, lines_tex
 use crate::lives::{add_births, add_life_row, add_rows};
 use crate::overview::add_column;
 use larch_actions::{Broken, Event, Layout, Version};
-use trace_board::board::Board;
-use trace_board::history::{Effect, Origin};
-use trace_board::marks::{Marks, marks_of};
+use trace_board::board::TraceState;
+use trace_board::history::{Change, Origin};
+use trace_board::marks::{Effects, marks_of};
 use trace_board::rows::Bar;
 use trace_core::add;
 use trace_shapes::arrows::add_arrow_if;
@@ -23,7 +23,7 @@ use trace_shapes::shapes::{
 };
 use trace_shapes::tags::add_with_number;
 use trace_shapes::view::{
-    Band, Reach, Strip, View, band_of, column_of, is_band_open, is_in_view, lanes_of,
+    Band, DrawnRange, Reach, Strip, band_of, column_of, is_band_open, is_in_view, lanes_of,
 };
 
 // The upper edge of the first band.
@@ -59,7 +59,7 @@ pub fn top_of(layout: &Layout, band: u64) -> u64
 }
 
 /// The number of a band.
-pub fn number_of(view: &View, band: &Band) -> u64
+pub fn number_of(view: &DrawnRange, band: &Band) -> u64
     ensures number { result ≡ band_number view.now band.now }
     ensures small { result ≤ band.now.start }
 {
@@ -100,14 +100,14 @@ fn add_opening(
     buf: &mut [u8],
     at: usize,
     layout: &Layout,
-    view: &View,
-    board: &Board,
+    view: &DrawnRange,
+    board: &TraceState,
     place: u64,
 ) -> usize
     requires lawful { IsLawful layout.now }
     requires few { place < 2 ^ 41 }
     requires room { at + 65000 ≤ length buf.old }
-    ensures text { take result buf.new ≡ take at buf.old ++ opening layout.now view.now (kept_of board.now) place }
+    ensures text { take result buf.new ≡ take at buf.old ++ opening layout.now view.now (tracked_of board.now) place }
     ensures near { result ≤ at + 65000 }
 {
     if column_of(view, place) == 0 {
@@ -121,11 +121,11 @@ fn add_opening(
 }
 
 // Adds the bar of a mutex where it is held.
-fn add_bar_if(buf: &mut [u8], at: usize, reach: &Reach, board: &Board, mutex: u32) -> usize
+fn add_bar_if(buf: &mut [u8], at: usize, reach: &Reach, board: &TraceState, mutex: u32) -> usize
     requires few { mutex < 256 }
     requires room { at + 550 ≤ length buf.old }
     requires place { reach.now.to < 2 ^ 42 }
-    ensures text { take result buf.new ≡ take at buf.old ++ bar_if reach.now (kept_of board.now) mutex (entry_of board.now.held mutex) }
+    ensures text { take result buf.new ≡ take at buf.old ++ bar_if reach.now (tracked_of board.now) mutex (entry_of board.now.held mutex) }
     ensures near { result ≤ at + 550 }
 {
     match board.held.at(mutex) {
@@ -143,11 +143,11 @@ fn add_bar_if(buf: &mut [u8], at: usize, reach: &Reach, board: &Board, mutex: u3
 }
 
 // Adds the bar of a semaphore where it is taken.
-fn add_taken_if(buf: &mut [u8], at: usize, reach: &Reach, board: &Board, sem: u32) -> usize
+fn add_taken_if(buf: &mut [u8], at: usize, reach: &Reach, board: &TraceState, sem: u32) -> usize
     requires few { sem < 256 }
     requires room { at + 550 ≤ length buf.old }
     requires place { reach.now.to < 2 ^ 42 }
-    ensures text { take result buf.new ≡ take at buf.old ++ taken_if reach.now (kept_of board.now) sem (entry_of board.now.taken sem) }
+    ensures text { take result buf.new ≡ take at buf.old ++ taken_if reach.now (tracked_of board.now) sem (entry_of board.now.taken sem) }
     ensures near { result ≤ at + 550 }
 {
     match board.taken.at(sem) {
@@ -165,7 +165,7 @@ fn add_taken_if(buf: &mut [u8], at: usize, reach: &Reach, board: &Board, sem: u3
 }
 
 // Adds the wait of a thread where it waits.
-fn add_wait_if(buf: &mut [u8], at: usize, reach: &Reach, board: &Board, thread: u32) -> usize
+fn add_wait_if(buf: &mut [u8], at: usize, reach: &Reach, board: &TraceState, thread: u32) -> usize
     requires few { thread < 256 }
     requires room { at + 480 ≤ length buf.old }
     requires place { reach.now.to < 2 ^ 42 }
@@ -179,11 +179,11 @@ fn add_wait_if(buf: &mut [u8], at: usize, reach: &Reach, board: &Board, thread: 
 }
 
 // Adds the bars of the mutexes that are held.
-fn add_bars(buf: &mut [u8], at: usize, reach: &Reach, board: &Board, mutexes: u32) -> usize
+fn add_bars(buf: &mut [u8], at: usize, reach: &Reach, board: &TraceState, mutexes: u32) -> usize
     requires few { mutexes ≤ 64 }
     requires place { reach.now.to < 2 ^ 42 }
     requires room { at + 550 * mutexes ≤ length buf.old }
-    ensures text { take result buf.new ≡ take at buf.old ++ each_below (λ m. bar_if reach.now (kept_of board.now) m
+    ensures text { take result buf.new ≡ take at buf.old ++ each_below (λ m. bar_if reach.now (tracked_of board.now) m
         (entry_of board.now.held m)) mutexes }
     ensures near { result ≤ at + 550 * mutexes }
 {
@@ -195,11 +195,17 @@ fn add_bars(buf: &mut [u8], at: usize, reach: &Reach, board: &Board, mutexes: u3
 }
 
 // Adds the bars of the semaphores that are taken.
-fn add_takings(buf: &mut [u8], at: usize, reach: &Reach, board: &Board, semaphores: u32) -> usize
+fn add_takings(
+    buf: &mut [u8],
+    at: usize,
+    reach: &Reach,
+    board: &TraceState,
+    semaphores: u32,
+) -> usize
     requires few { semaphores ≤ 64 }
     requires place { reach.now.to < 2 ^ 42 }
     requires room { at + 550 * semaphores ≤ length buf.old }
-    ensures text { take result buf.new ≡ take at buf.old ++ each_below (λ s. taken_if reach.now (kept_of board.now) s
+    ensures text { take result buf.new ≡ take at buf.old ++ each_below (λ s. taken_if reach.now (tracked_of board.now) s
         (entry_of board.now.taken s)) semaphores }
     ensures near { result ≤ at + 550 * semaphores }
 {
@@ -211,7 +217,7 @@ fn add_takings(buf: &mut [u8], at: usize, reach: &Reach, board: &Board, semaphor
 }
 
 // Adds the threads that wait.
-fn add_waits(buf: &mut [u8], at: usize, reach: &Reach, board: &Board, threads: u32) -> usize
+fn add_waits(buf: &mut [u8], at: usize, reach: &Reach, board: &TraceState, threads: u32) -> usize
     requires few { threads ≤ 256 }
     requires place { reach.now.to < 2 ^ 42 }
     requires room { at + 480 * threads ≤ length buf.old }
@@ -227,11 +233,17 @@ fn add_waits(buf: &mut [u8], at: usize, reach: &Reach, board: &Board, threads: u
 
 // Adds the bars that go on.
 #[tactic(auto, using(larch_actions::proofs::Names::few_threads), unfolding(crate::specs::Bands::bars_on))]
-fn add_bars_on(buf: &mut [u8], at: usize, layout: &Layout, reach: &Reach, board: &Board) -> usize
+fn add_bars_on(
+    buf: &mut [u8],
+    at: usize,
+    layout: &Layout,
+    reach: &Reach,
+    board: &TraceState,
+) -> usize
     requires lawful { IsLawful layout.now }
     requires place { reach.now.to < 2 ^ 42 }
     requires room { at + 194000 ≤ length buf.old }
-    ensures text { take result buf.new ≡ take at buf.old ++ bars_on layout.now reach.now (kept_of board.now) }
+    ensures text { take result buf.new ≡ take at buf.old ++ bars_on layout.now reach.now (tracked_of board.now) }
     ensures near { result ≤ at + 194000 }
 {
     let at = add_bars(buf, at, reach, board, layout.mutexes);
@@ -245,16 +257,16 @@ pub fn add_closing(
     buf: &mut [u8],
     at: usize,
     layout: &Layout,
-    view: &View,
+    view: &DrawnRange,
     band: &Band,
-    board: &Board,
+    board: &TraceState,
     to: u64,
 ) -> usize
     requires lawful { IsLawful layout.now }
     requires start { band.now.start < 2 ^ 42 }
     requires place { to < 2 ^ 42 }
     requires room { at + 330000 ≤ length buf.old }
-    ensures text { take result buf.new ≡ take at buf.old ++ closing layout.now view.now band.now (kept_of board.now) to }
+    ensures text { take result buf.new ≡ take at buf.old ++ closing layout.now view.now band.now (tracked_of board.now) to }
     ensures near { result ≤ at + 330000 }
 {
     let reach = Reach {
@@ -275,14 +287,14 @@ fn add_closing_after(
     buf: &mut [u8],
     at: usize,
     layout: &Layout,
-    view: &View,
-    board: &Board,
+    view: &DrawnRange,
+    board: &TraceState,
     place: u64,
 ) -> usize
     requires lawful { IsLawful layout.now }
     requires few { place < 2 ^ 41 }
     requires room { at + 330000 ≤ length buf.old }
-    ensures text { take result buf.new ≡ take at buf.old ++ closing_after layout.now view.now (kept_of board.now) place }
+    ensures text { take result buf.new ≡ take at buf.old ++ closing_after layout.now view.now (tracked_of board.now) place }
     ensures near { result ≤ at + 330000 }
 {
     if is_band_open(view, place + 1) {
@@ -294,58 +306,82 @@ fn add_closing_after(
 }
 
 // Adds the bar that ends with the event.
-fn add_bar_ended(buf: &mut [u8], at: usize, reach: &Reach, board: &Board, effect: Effect) -> usize
+fn add_bar_ended(
+    buf: &mut [u8],
+    at: usize,
+    reach: &Reach,
+    board: &TraceState,
+    effect: Change,
+) -> usize
     requires within { IsWithin effect }
     requires few { reach.now.to < 2 ^ 42 }
     requires room { at + 550 ≤ length buf.old }
-    ensures text { take result buf.new ≡ take at buf.old ++ bar_ended reach.now (kept_of board.now) effect }
+    ensures text { take result buf.new ≡ take at buf.old ++ bar_ended reach.now (tracked_of board.now) effect }
     ensures near { result ≤ at + 550 }
 {
     match effect {
-        Effect::Ends(m) => add_bar_if(buf, at, reach, board, m),
-        Effect::Begins(_) => at,
-        Effect::Stays => at,
+        Change::Ends(m) => add_bar_if(buf, at, reach, board, m),
+        Change::Begins(_) => at,
+        Change::Stays => at,
     }
 }
 
 // Adds the bar of the semaphore that the event makes available.
-fn add_taken_ended(buf: &mut [u8], at: usize, reach: &Reach, board: &Board, effect: Effect) -> usize
+fn add_taken_ended(
+    buf: &mut [u8],
+    at: usize,
+    reach: &Reach,
+    board: &TraceState,
+    effect: Change,
+) -> usize
     requires within { IsWithin effect }
     requires few { reach.now.to < 2 ^ 42 }
     requires room { at + 550 ≤ length buf.old }
-    ensures text { take result buf.new ≡ take at buf.old ++ taken_ended reach.now (kept_of board.now) effect }
+    ensures text { take result buf.new ≡ take at buf.old ++ taken_ended reach.now (tracked_of board.now) effect }
     ensures near { result ≤ at + 550 }
 {
     match effect {
-        Effect::Ends(s) => add_taken_if(buf, at, reach, board, s),
-        Effect::Begins(_) => at,
-        Effect::Stays => at,
+        Change::Ends(s) => add_taken_if(buf, at, reach, board, s),
+        Change::Begins(_) => at,
+        Change::Stays => at,
     }
 }
 
 // Adds the wait that ends with the event.
-fn add_wait_ended(buf: &mut [u8], at: usize, reach: &Reach, board: &Board, effect: Effect) -> usize
+fn add_wait_ended(
+    buf: &mut [u8],
+    at: usize,
+    reach: &Reach,
+    board: &TraceState,
+    effect: Change,
+) -> usize
     requires within { IsWithin effect }
     requires few { reach.now.to < 2 ^ 42 }
     requires room { at + 480 ≤ length buf.old }
-    ensures text { take result buf.new ≡ take at buf.old ++ wait_ended reach.now (kept_of board.now) effect }
+    ensures text { take result buf.new ≡ take at buf.old ++ wait_ended reach.now (tracked_of board.now) effect }
     ensures near { result ≤ at + 480 }
 {
     match effect {
-        Effect::Ends(t) => add_wait_if(buf, at, reach, board, t),
-        Effect::Begins(_) => at,
-        Effect::Stays => at,
+        Change::Ends(t) => add_wait_if(buf, at, reach, board, t),
+        Change::Begins(_) => at,
+        Change::Stays => at,
     }
 }
 
 // Adds the bars that end with the event that shows this.
-fn add_bars_ended(buf: &mut [u8], at: usize, reach: &Reach, board: &Board, shown: &Marks) -> usize
+fn add_bars_ended(
+    buf: &mut [u8],
+    at: usize,
+    reach: &Reach,
+    board: &TraceState,
+    shown: &Effects,
+) -> usize
     requires held { IsWithin shown.now.mutex }
     requires taken { IsWithin shown.now.semaphore }
     requires waits { IsWithin shown.now.wait }
     requires few { reach.now.to < 2 ^ 42 }
     requires room { at + 1580 ≤ length buf.old }
-    ensures text { take result buf.new ≡ take at buf.old ++ bars_ended reach.now (kept_of board.now) shown.now }
+    ensures text { take result buf.new ≡ take at buf.old ++ bars_ended reach.now (tracked_of board.now) shown.now }
     ensures near { result ≤ at + 1580 }
 {
     let at = add_bar_ended(buf, at, reach, board, shown.mutex);
@@ -358,16 +394,16 @@ fn add_arrow_to(
     buf: &mut [u8],
     at: usize,
     band: &Band,
-    board: &Board,
+    board: &TraceState,
     place: u64,
     e: &Event,
-    shown: &Marks,
+    shown: &Effects,
 ) -> usize
     requires same { shown.now ≡ marks e.now }
     requires noted { IsNoted e.now }
     requires few { place < 2 ^ 41 }
     requires room { at + 700 ≤ length buf.old }
-    ensures text { take result buf.new ≡ take at buf.old ++ arrow_to band.now (kept_of board.now) place e.now }
+    ensures text { take result buf.new ≡ take at buf.old ++ arrow_to band.now (tracked_of board.now) place e.now }
     ensures near { result ≤ at + 700 }
 {
     let by = board.waker(shown.waker);
@@ -382,14 +418,14 @@ fn add_event_shapes(
     buf: &mut [u8],
     at: usize,
     band: &Band,
-    board: &Board,
+    board: &TraceState,
     place: u64,
     e: &Event,
 ) -> usize
     requires noted { IsNoted e.now }
     requires few { place < 2 ^ 41 }
     requires room { at + 4600 ≤ length buf.old }
-    ensures text { take result buf.new ≡ take at buf.old ++ event_shapes band.now (kept_of board.now) place e.now }
+    ensures text { take result buf.new ≡ take at buf.old ++ event_shapes band.now (tracked_of board.now) place e.now }
     ensures near { result ≤ at + 4600 }
 {
     let shown = marks_of(e.thread, &e.action);
@@ -411,8 +447,8 @@ fn add_drawn(
     buf: &mut [u8],
     at: usize,
     layout: &Layout,
-    view: &View,
-    board: &mut Board,
+    view: &DrawnRange,
+    board: &mut TraceState,
     place: u64,
     e: &Event,
 ) -> usize
@@ -421,9 +457,9 @@ fn add_drawn(
     requires few { place < 2 ^ 41 }
     requires room { at + 400000 ≤ length buf.old }
     ensures text { take result buf.new ≡ take at buf.old ++
-        (opening layout.now view.now (kept_of board.old) place ++ event_shapes (band_of layout.now view.now place) (kept_of board.old) place e.now
-        ++ closing_after layout.now view.now (kept_of board.new) place) }
-    ensures kept { kept_of board.new ≡ kept_after place e.now (kept_of board.old) }
+        (opening layout.now view.now (tracked_of board.old) place ++ event_shapes (band_of layout.now view.now place) (tracked_of board.old) place e.now
+        ++ closing_after layout.now view.now (tracked_of board.new) place) }
+    ensures kept { tracked_of board.new ≡ tracked_after place e.now (tracked_of board.old) }
     ensures near { result ≤ at + 400000 }
 {
     let at = add_opening(buf, at, layout, view, board, place);
@@ -439,8 +475,8 @@ pub fn add_step(
     buf: &mut [u8],
     at: usize,
     layout: &Layout,
-    view: &View,
-    board: &mut Board,
+    view: &DrawnRange,
+    board: &mut TraceState,
     place: u64,
     e: &Event,
 ) -> usize
@@ -448,8 +484,8 @@ pub fn add_step(
     requires named { HasNames layout.now e.now }
     requires few { place < 2 ^ 41 }
     requires room { at + 400000 ≤ length buf.old }
-    ensures text { take result buf.new ≡ take at buf.old ++ step_text layout.now view.now (kept_of board.old) place e.now }
-    ensures kept { kept_of board.new ≡ kept_after place e.now (kept_of board.old) }
+    ensures text { take result buf.new ≡ take at buf.old ++ step_text layout.now view.now (tracked_of board.old) place e.now }
+    ensures kept { tracked_of board.new ≡ tracked_after place e.now (tracked_of board.old) }
     ensures near { result ≤ at + 400000 }
 {
     if is_in_view(view, place) {
@@ -484,8 +520,8 @@ pub fn add_failing(
     buf: &mut [u8],
     at: usize,
     layout: &Layout,
-    view: &View,
-    board: &Board,
+    view: &DrawnRange,
+    board: &TraceState,
     place: u64,
     e: &Event,
     why: Broken,
@@ -493,7 +529,7 @@ pub fn add_failing(
     requires lawful { IsLawful layout.now }
     requires few { place < 2 ^ 41 }
     requires room { at + 400000 ≤ length buf.old }
-    ensures text { take result buf.new ≡ take at buf.old ++ failing_text layout.now view.now (kept_of board.now) place e.now why }
+    ensures text { take result buf.new ≡ take at buf.old ++ failing_text layout.now view.now (tracked_of board.now) place e.now why }
     ensures near { result ≤ at + 400000 }
 {
     if is_in_view(view, place) {

@@ -12,7 +12,7 @@ ghost use Rattle.larch_actions.specs.declared.event.Version.{Version};
 ghost use Rattle.larch_actions.specs.Layout.{IsLawful};
 ghost use Rattle.larch_actions.specs.Actions.{at_first};
 ghost use Rattle.lock_order.specs.Kept.{IsKept};
-ghost use Rattle.trace_board.specs.Kept.{kept_of};
+ghost use Rattle.trace_board.specs.Tracked.{tracked_of};
 ghost use Rattle.trace_picture.specs.Picture.{ending, cut_words};
 ghost use Rattle.trace_picture.specs.Drawn.{IsDrawn, IsCutOff};
 
@@ -23,13 +23,13 @@ use crate::rings::{end_legal, note_if};
 use firefly_outside::{Sink, SinkFault, Source, put_all};
 use larch_actions::{Layout, State, Totals};
 use lock_order::LockGraph;
-use trace_board::board::Board;
+use trace_board::board::TraceState;
 use trace_check::{Summary, Verdict};
 use trace_core::{EventReader, TextFault};
-use trace_shapes::View;
+use trace_shapes::DrawnRange;
 
 // The verdict on a text that can't be read.
-fn refused(fault: TextFault) -> Verdict
+fn verdict_of(fault: TextFault) -> Verdict
     ensures { result ≡ refusal fault }
 {
     match fault {
@@ -79,8 +79,8 @@ fn end_cut<O: Sink>(
     buf: &mut [u8],
     at: usize,
     layout: &Layout,
-    view: &View,
-    board: &Board,
+    view: &DrawnRange,
+    board: &TraceState,
     count: u64,
     out: &mut O,
 ) -> Result<(), SinkFault>
@@ -88,9 +88,9 @@ fn end_cut<O: Sink>(
     requires few { count < 2 ^ 42 }
     requires room { at + 440000 ≤ length buf.old }
     ensures ok { OnOk result (Appends (O.held out.old) (O.held out.new)
-        (take at buf.old ++ ending layout.now view.now (kept_of board.now) count cut_words)) }
+        (take at buf.old ++ ending layout.now view.now (tracked_of board.now) count cut_words)) }
     ensures err { OnErr result (AppendsPrefix (O.held out.old) (O.held out.new)
-        (take at buf.old ++ ending layout.now view.now (kept_of board.now) count cut_words)) }
+        (take at buf.old ++ ending layout.now view.now (tracked_of board.now) count cut_words)) }
     ensures cause { HasCause (O.faults out.old) (O.faults out.new) result }
 {
     end_with(
@@ -111,7 +111,7 @@ fn end_cut<O: Sink>(
 pub fn draw_trace<I: Source, O: Sink>(
     input: &mut I,
     budget: u64,
-    view: &View,
+    view: &DrawnRange,
     out: &mut O,
 ) -> Result<Verdict, SinkFault>
     requires { budget ≤ 2 ^ 40 }
@@ -125,7 +125,7 @@ pub fn draw_trace<I: Source, O: Sink>(
     ensures cut_off { OnErr result (IsCutOff budget view.now (I.left input.old) (O.held out.old) (O.held out.new)) }
     ensures cause { HasCause (O.faults out.old) (O.faults out.new) result }
     // A failed read is reported, and a read can fail only where no verdict is due yet. So nothing is asked once a byte decides.
-    ensures told { IfOk result (λ v. v ≢ verdict.ReadFault → I.faults input.new ≡ I.faults input.old) }
+    ensures reported { IfOk result (λ v. v ≢ verdict.ReadFault → I.faults input.new ≡ I.faults input.old) }
     ensures later { I.faults input.old ≤ I.faults input.new }
 {
     let mut buf = [0; 458752];
@@ -137,7 +137,7 @@ fn draw_by<I: Source, O: Sink>(
     buf: &mut [u8],
     input: &mut I,
     budget: u64,
-    view: &View,
+    view: &DrawnRange,
     out: &mut O,
 ) -> Result<Verdict, SinkFault>
     requires large { 458000 ≤ length buf.old }
@@ -149,7 +149,7 @@ fn draw_by<I: Source, O: Sink>(
     ensures drawn { IfOk result (λ v. IsDrawn budget view.now (I.left input.old) (O.held out.old) (O.held out.new) v) }
     ensures cut_off { OnErr result (IsCutOff budget view.now (I.left input.old) (O.held out.old) (O.held out.new)) }
     ensures cause { HasCause (O.faults out.old) (O.faults out.new) result }
-    ensures told { IfOk result (λ v. v ≢ verdict.ReadFault → I.faults input.new ≡ I.faults input.old) }
+    ensures reported { IfOk result (λ v. v ≢ verdict.ReadFault → I.faults input.new ≡ I.faults input.old) }
     ensures later { I.faults input.old ≤ I.faults input.new }
 {
     let mut reader = EventReader::new(input, budget);
@@ -160,7 +160,7 @@ fn draw_by<I: Source, O: Sink>(
 // Draws what a new reader gives.
 fn draw_all<I: Source, O: Sink>(
     reader: &mut EventReader<I>,
-    view: &View,
+    view: &DrawnRange,
     graph: &mut LockGraph,
     buf: &mut [u8],
     out: &mut O,
@@ -179,16 +179,16 @@ fn draw_all<I: Source, O: Sink>(
         (O.held out.old) (O.held out.new)) }
     ensures cause { HasCause (O.faults out.old) (O.faults out.new) result }
     ensures same_input { (input_of reader.new).ghost_name ≡ (input_of reader.old).ghost_name }
-    ensures told { IfOk result (λ v. v ≢ verdict.ReadFault → I.faults (input_of reader.new).now ≡ I.faults (input_of reader.old).now) }
+    ensures reported { IfOk result (λ v. v ≢ verdict.ReadFault → I.faults (input_of reader.new).now ≡ I.faults (input_of reader.old).now) }
     ensures later { I.faults (input_of reader.old).now ≤ I.faults (input_of reader.new).now }
 {
     let layout = match reader.head() {
         Ok(layout) => layout,
-        Err(fault) => return Ok(refused(fault)),
+        Err(fault) => return Ok(verdict_of(fault)),
     };
     let mut at = add_head(buf, 0, &layout);
     let mut state = State::new(layout);
-    let mut board = Board::new();
+    let mut board = TraceState::new();
     let mut place = 0;
     loop {
         let free = match make_room(buf, at, out) {
@@ -220,7 +220,7 @@ fn draw_all<I: Source, O: Sink>(
             }
             Err(broken) => {
                 return match end_cut(buf, free, &layout, view, &board, place, out) {
-                    Ok(()) => Ok(refused(broken)),
+                    Ok(()) => Ok(verdict_of(broken)),
                     Err(fault) => Err(fault),
                 };
             }

@@ -3,7 +3,7 @@ ghost use Rattle.std.specs.Prelude.{◌≡◌, ◌+◌, ◌<◌, ◌≤◌, ◌^
 ghost use Rattle.std.specs.Io.KnownBytes.{Appends};
 ghost use Rattle.firefly_outside.specs.Causes.{HasCause, AppendsPrefix};
 ghost use Rattle.larch_actions.specs.Layout.{IsLawful};
-ghost use Rattle.trace_board.specs.Kept.{kept_of};
+ghost use Rattle.trace_board.specs.Tracked.{tracked_of};
 ghost use Rattle.trace_shapes.specs.Places.{is_open, band_of, height_of};
 ghost use Rattle.trace_shapes.specs.Shapes.{with_number, line_of, clause_word};
 ghost use Rattle.trace_picture.specs.Bands.{closing};
@@ -16,14 +16,14 @@ use crate::longest::{add_holds, height_of_holds};
 use crate::overview::{add_over_style, height_of_overview};
 use firefly_outside::{Sink, SinkFault, put_all};
 use larch_actions::{Broken, Event, Layout};
-use trace_board::board::Board;
+use trace_board::board::TraceState;
 use trace_core::add;
 use trace_shapes::shapes::word_of;
 use trace_shapes::tags::{add_line, add_with_number};
-use trace_shapes::view::{View, band_of, count_bands, is_band_open};
+use trace_shapes::view::{DrawnRange, band_of, count_bands, is_band_open};
 
 // How high the picture is, but for its last line.
-fn height(layout: &Layout, view: &View, count: u64) -> u64
+fn height(layout: &Layout, view: &DrawnRange, count: u64) -> u64
     requires lawful { IsLawful layout.now }
     requires few { count < 2 ^ 42 }
     ensures height { result ≡ height_of layout.now view.now count }
@@ -38,14 +38,14 @@ pub fn add_last_closing(
     buf: &mut [u8],
     at: usize,
     layout: &Layout,
-    view: &View,
-    board: &Board,
+    view: &DrawnRange,
+    board: &TraceState,
     count: u64,
 ) -> usize
     requires lawful { IsLawful layout.now }
     requires few { count < 2 ^ 42 }
     requires room { at + 330000 ≤ length buf.old }
-    ensures text { take result buf.new ≡ take at buf.old ++ closing_if layout.now view.now (kept_of board.now) count }
+    ensures text { take result buf.new ≡ take at buf.old ++ closing_if layout.now view.now (tracked_of board.now) count }
     ensures near { result ≤ at + 330000 }
 {
     if is_band_open(view, count) {
@@ -57,7 +57,13 @@ pub fn add_last_closing(
 }
 
 /// Adds the start of the last line.
-pub fn add_note_place(buf: &mut [u8], at: usize, layout: &Layout, view: &View, count: u64) -> usize
+pub fn add_note_place(
+    buf: &mut [u8],
+    at: usize,
+    layout: &Layout,
+    view: &DrawnRange,
+    count: u64,
+) -> usize
     requires lawful { IsLawful layout.now }
     requires few { count < 2 ^ 42 }
     requires room { at + 60 ≤ length buf.old }
@@ -78,7 +84,7 @@ fn add_last_tags(
     buf: &mut [u8],
     at: usize,
     layout: &Layout,
-    view: &View,
+    view: &DrawnRange,
     count: u64,
     low: u64,
 ) -> usize
@@ -101,14 +107,14 @@ pub fn add_last_lines(
     buf: &mut [u8],
     at: usize,
     layout: &Layout,
-    view: &View,
-    board: &Board,
+    view: &DrawnRange,
+    board: &TraceState,
     count: u64,
 ) -> usize
     requires lawful { IsLawful layout.now }
     requires few { count < 2 ^ 42 }
     requires room { at + 37000 ≤ length buf.old }
-    ensures text { take result buf.new ≡ take at buf.old ++ (codes "</text>\n" ++ holds_text layout.now.mutexes (kept_of board.now) count
+    ensures text { take result buf.new ≡ take at buf.old ++ (codes "</text>\n" ++ holds_text layout.now.mutexes (tracked_of board.now) count
         (height_of layout.now view.now count) ++ (with_number (codes "</g>\n<style>:root{height:") (height_of layout.now view.now count + 28
         + holds_height layout.now.mutexes + over_height layout.now view.now count)
         ++ over_style layout.now view.now count)) }
@@ -122,7 +128,7 @@ pub fn add_last_lines(
 
 // Adds which events were drawn.
 #[tactic(auto, unfolding(crate::specs::Picture::part_text))]
-fn add_part(buf: &mut [u8], at: usize, view: &View, count: u64) -> usize
+fn add_part(buf: &mut [u8], at: usize, view: &DrawnRange, count: u64) -> usize
     requires { at + 100 ≤ length buf.old }
     ensures text { take result buf.new ≡ take at buf.old ++ part_text view.now count }
     ensures near { result ≤ at + 100 }
@@ -142,8 +148,8 @@ pub fn add_end(
     buf: &mut [u8],
     at: usize,
     layout: &Layout,
-    view: &View,
-    board: &Board,
+    view: &DrawnRange,
+    board: &TraceState,
     count: u64,
     words: &[u8],
 ) -> usize
@@ -151,7 +157,7 @@ pub fn add_end(
     requires few { count < 2 ^ 42 }
     requires short { length words.now ≤ 60 }
     requires room { at + 37300 ≤ length buf.old }
-    ensures text { take result buf.new ≡ take at buf.old ++ end_text layout.now view.now (kept_of board.now) count
+    ensures text { take result buf.new ≡ take at buf.old ++ end_text layout.now view.now (tracked_of board.now) count
         (with_number words.now count) }
     ensures near { result ≤ at + 37300 }
 {
@@ -167,8 +173,8 @@ pub fn add_ending(
     buf: &mut [u8],
     at: usize,
     layout: &Layout,
-    view: &View,
-    board: &Board,
+    view: &DrawnRange,
+    board: &TraceState,
     count: u64,
     words: &[u8],
 ) -> usize
@@ -176,7 +182,7 @@ pub fn add_ending(
     requires few { count < 2 ^ 42 }
     requires short { length words.now ≤ 60 }
     requires room { at + 370000 ≤ length buf.old }
-    ensures text { take result buf.new ≡ take at buf.old ++ ending layout.now view.now (kept_of board.now) count words.now }
+    ensures text { take result buf.new ≡ take at buf.old ++ ending layout.now view.now (tracked_of board.now) count words.now }
     ensures near { result ≤ at + 370000 }
 {
     let at = add_last_closing(buf, at, layout, view, board, count);
@@ -202,8 +208,8 @@ fn add_failed_end(
     buf: &mut [u8],
     at: usize,
     layout: &Layout,
-    view: &View,
-    board: &Board,
+    view: &DrawnRange,
+    board: &TraceState,
     place: u64,
     e: &Event,
     why: Broken,
@@ -211,7 +217,7 @@ fn add_failed_end(
     requires lawful { IsLawful layout.now }
     requires few { place < 2 ^ 41 }
     requires room { at + 39000 ≤ length buf.old }
-    ensures text { take result buf.new ≡ take at buf.old ++ end_text layout.now view.now (kept_of board.now) (place + 1)
+    ensures text { take result buf.new ≡ take at buf.old ++ end_text layout.now view.now (tracked_of board.now) (place + 1)
         (failed_note place e.now why) }
     ensures near { result ≤ at + 39000 }
 {
@@ -227,8 +233,8 @@ pub fn add_failed_ending(
     buf: &mut [u8],
     at: usize,
     layout: &Layout,
-    view: &View,
-    board: &Board,
+    view: &DrawnRange,
+    board: &TraceState,
     place: u64,
     e: &Event,
     why: Broken,
@@ -236,7 +242,7 @@ pub fn add_failed_ending(
     requires lawful { IsLawful layout.now }
     requires few { place < 2 ^ 41 }
     requires room { at + 440000 ≤ length buf.old }
-    ensures text { take result buf.new ≡ take at buf.old ++ failed_ending layout.now view.now (kept_of board.now) place e.now why }
+    ensures text { take result buf.new ≡ take at buf.old ++ failed_ending layout.now view.now (tracked_of board.now) place e.now why }
     ensures near { result ≤ at + 440000 }
 {
     let at = add_failing(buf, at, layout, view, board, place, e, why);
@@ -248,8 +254,8 @@ pub fn end_with<O: Sink>(
     buf: &mut [u8],
     at: usize,
     layout: &Layout,
-    view: &View,
-    board: &Board,
+    view: &DrawnRange,
+    board: &TraceState,
     count: u64,
     words: &[u8],
     out: &mut O,
@@ -259,9 +265,9 @@ pub fn end_with<O: Sink>(
     requires short { length words.now ≤ 60 }
     requires room { at + 370000 ≤ length buf.old }
     ensures ok { OnOk result (Appends (O.held out.old) (O.held out.new)
-        (take at buf.old ++ ending layout.now view.now (kept_of board.now) count words.now)) }
+        (take at buf.old ++ ending layout.now view.now (tracked_of board.now) count words.now)) }
     ensures err { OnErr result (AppendsPrefix (O.held out.old) (O.held out.new)
-        (take at buf.old ++ ending layout.now view.now (kept_of board.now) count words.now)) }
+        (take at buf.old ++ ending layout.now view.now (tracked_of board.now) count words.now)) }
     ensures cause { HasCause (O.faults out.old) (O.faults out.new) result }
 {
     let end = add_ending(buf, at, layout, view, board, count, words);
@@ -273,8 +279,8 @@ pub fn end_failed<O: Sink>(
     buf: &mut [u8],
     at: usize,
     layout: &Layout,
-    view: &View,
-    board: &Board,
+    view: &DrawnRange,
+    board: &TraceState,
     place: u64,
     e: &Event,
     why: Broken,
@@ -284,9 +290,9 @@ pub fn end_failed<O: Sink>(
     requires few { place < 2 ^ 41 }
     requires room { at + 440000 ≤ length buf.old }
     ensures ok { OnOk result (Appends (O.held out.old) (O.held out.new)
-        (take at buf.old ++ failed_ending layout.now view.now (kept_of board.now) place e.now why)) }
+        (take at buf.old ++ failed_ending layout.now view.now (tracked_of board.now) place e.now why)) }
     ensures err { OnErr result (AppendsPrefix (O.held out.old) (O.held out.new)
-        (take at buf.old ++ failed_ending layout.now view.now (kept_of board.now) place e.now why)) }
+        (take at buf.old ++ failed_ending layout.now view.now (tracked_of board.now) place e.now why)) }
     ensures cause { HasCause (O.faults out.old) (O.faults out.new) result }
 {
     let end = add_failed_ending(buf, at, layout, view, board, place, e, why);

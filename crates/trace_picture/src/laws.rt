@@ -1,5 +1,5 @@
 //! Laws of the picture. What a bar, an arrow and a longest hold say stands in the laws of trace_board.
-ghost use Rattle.trace_picture.specs.Seen.{MarksDiffer, EventsAreMarked, BarsAreDrawn, TakingsAreDrawn, RowsStand, RowsBegin, RowsEnd, JoinsAreDrawn, ForksAreDrawn, HoldsAreTold};
+ghost use Rattle.trace_picture.specs.Seen.{MarksDiffer, EventsAreMarked, BarsAreDrawn, TakingsAreDrawn, RowsStand, RowsBegin, RowsEnd, JoinsAreDrawn, ForksAreDrawn, HoldsAreReported};
 
 /// Actions of different kinds have marks of different names, in which different letters are seen.
 pub fn marks_differ()
@@ -47,6 +47,6 @@ pub fn forks_are_drawn()
 {}
 
 /// The last lines show the longest hold of each mutex: by whom, how many events, and from which event to which.
-pub fn holds_are_told()
-    ensures { HoldsAreTold }
+pub fn holds_are_reported()
+    ensures { HoldsAreReported }
 {}

@@ -1,6 +1,6 @@
 //! The rows of threads that begin and end, written into a buffer after its first `at` bytes. Each call returns where it ended.
 ghost use Rattle.std.specs.Prelude.{◌≡◌, ◌+◌, ◌-◌, ◌*◌, ◌<◌, ◌≤◌, ◌^◌, ◌++◌, length, take, codes};
-ghost use Rattle.trace_board.specs.Kept.{kept_of, forked_by};
+ghost use Rattle.trace_board.specs.Tracked.{tracked_of, forked_by};
 ghost use Rattle.trace_board.specs.Laws.{is_live};
 ghost use Rattle.larch_actions.specs.Layout.{IsLawful};
 ghost use Rattle.trace_shapes.specs.Arrows.{link};
@@ -8,8 +8,8 @@ ghost use Rattle.trace_shapes.specs.Shapes.{each_below};
 ghost use Rattle.trace_picture.specs.Lives.{has_row, row_if, row_box, row_from, row_until, life_row, birth_words, birth_text, birth_if, births};
 
 use larch_actions::{Layout, Life, Version};
-use trace_board::board::Board;
-use trace_board::history::{Effect, Origin};
+use trace_board::board::TraceState;
+use trace_board::history::{Change, Origin};
 use trace_core::add;
 use trace_shapes::arrows::{add_bow, add_origin, head_of, x_from, y_from};
 use trace_shapes::geometry::{COLUMN, ROW_RIGHT};
@@ -29,9 +29,9 @@ fn lives(life: Life) -> bool
 }
 
 // Whether the thread has a row at the start of a band.
-fn stands(version: Version, board: &Board, t: u32) -> bool
+fn stands(version: Version, board: &TraceState, t: u32) -> bool
     requires { t < 256 }
-    ensures { result ≡ has_row version (kept_of board.now) t }
+    ensures { result ≡ has_row version (tracked_of board.now) t }
 {
     match version {
         Version::One => true,
@@ -45,12 +45,12 @@ fn add_row_if(
     at: usize,
     layout: &Layout,
     band: &Band,
-    board: &Board,
+    board: &TraceState,
     t: u32,
 ) -> usize
     requires few { t < 256 }
     requires room { at + 250 ≤ length buf.old }
-    ensures text { take result buf.new ≡ take at buf.old ++ row_if layout.now.version band.now (kept_of board.now) t }
+    ensures text { take result buf.new ≡ take at buf.old ++ row_if layout.now.version band.now (tracked_of board.now) t }
     ensures near { result ≤ at + 250 }
 {
     if stands(layout.version, board, t) {
@@ -62,10 +62,16 @@ fn add_row_if(
 
 /// Adds the rows of all threads that have one.
 #[tactic(auto, using(larch_actions::proofs::Names::few_threads))]
-pub fn add_rows(buf: &mut [u8], at: usize, layout: &Layout, band: &Band, board: &Board) -> usize
+pub fn add_rows(
+    buf: &mut [u8],
+    at: usize,
+    layout: &Layout,
+    band: &Band,
+    board: &TraceState,
+) -> usize
     requires lawful { IsLawful layout.now }
     requires room { at + 64000 ≤ length buf.old }
-    ensures text { take result buf.new ≡ take at buf.old ++ each_below (row_if layout.now.version band.now (kept_of board.now)) layout.now.threads }
+    ensures text { take result buf.new ≡ take at buf.old ++ each_below (row_if layout.now.version band.now (tracked_of board.now)) layout.now.threads }
     ensures near { result ≤ at + 64000 }
 {
     let mut last = at;
@@ -114,16 +120,16 @@ fn add_row_until(buf: &mut [u8], at: usize, band: &Band, x: u64, t: u32) -> usiz
 }
 
 /// Adds what the event does to a row.
-pub fn add_life_row(buf: &mut [u8], at: usize, band: &Band, place: u64, effect: Effect) -> usize
+pub fn add_life_row(buf: &mut [u8], at: usize, band: &Band, place: u64, effect: Change) -> usize
     requires place { place < 2 ^ 42 }
     requires room { at + 300 ≤ length buf.old }
     ensures text { take result buf.new ≡ take at buf.old ++ life_row band.now place effect }
     ensures near { result ≤ at + 300 }
 {
     match effect {
-        Effect::Begins(t) => add_row_from(buf, at, band, event_x(band, place), t),
-        Effect::Ends(t) => add_row_until(buf, at, band, event_x(band, place) + COLUMN, t),
-        Effect::Stays => at,
+        Change::Begins(t) => add_row_from(buf, at, band, event_x(band, place), t),
+        Change::Ends(t) => add_row_until(buf, at, band, event_x(band, place) + COLUMN, t),
+        Change::Stays => at,
     }
 }
 
@@ -183,7 +189,7 @@ fn add_each_birth(
     buf: &mut [u8],
     at: usize,
     band: &Band,
-    board: &Board,
+    board: &TraceState,
     to: u64,
     threads: u32,
 ) -> usize
@@ -191,7 +197,7 @@ fn add_each_birth(
     requires place { to < 2 ^ 42 }
     requires room { at + 350 * threads ≤ length buf.old }
     ensures text { take result buf.new
-        ≡ take at buf.old ++ each_below (λ t. birth_if band.now to t (forked_by (kept_of board.now) t)) threads }
+        ≡ take at buf.old ++ each_below (λ t. birth_if band.now to t (forked_by (tracked_of board.now) t)) threads }
     ensures near { result ≤ at + 350 * threads }
 {
     let mut last = at;
@@ -208,13 +214,13 @@ pub fn add_births(
     at: usize,
     layout: &Layout,
     band: &Band,
-    board: &Board,
+    board: &TraceState,
     to: u64,
 ) -> usize
     requires lawful { IsLawful layout.now }
     requires place { to < 2 ^ 42 }
     requires room { at + 90000 ≤ length buf.old }
-    ensures text { take result buf.new ≡ take at buf.old ++ births layout.now.version band.now (kept_of board.now) to layout.now.threads }
+    ensures text { take result buf.new ≡ take at buf.old ++ births layout.now.version band.now (tracked_of board.now) to layout.now.threads }
     ensures near { result ≤ at + 90000 }
 {
     match layout.version {

@@ -1,12 +1,12 @@
 //! The last lines of a picture: the longest hold of each mutex, written into a buffer after its first `at` bytes. Each call returns where it ended.
 ghost use Rattle.std.specs.Prelude.{◌≡◌, ◌+◌, ◌*◌, ◌/◌, ◌%◌, ◌<◌, ◌≤◌, ◌^◌, ◌++◌, length, take, codes};
 ghost use Rattle.larch_actions.specs.Layout.{IsLawful};
-ghost use Rattle.trace_board.specs.Kept.{kept_of, longest_in};
+ghost use Rattle.trace_board.specs.Tracked.{tracked_of, longest_in};
 ghost use Rattle.trace_shapes.specs.Shapes.{with_number, each_below, place_text};
-ghost use Rattle.trace_picture.specs.Longest.{hold_end, hold_text, told_hold, line_x, line_y, sample_text, hold_line, holds_text, holds_height};
+ghost use Rattle.trace_picture.specs.Longest.{hold_end, hold_text, reported_hold, line_x, line_y, sample_text, hold_line, holds_text, holds_height};
 
 use larch_actions::Layout;
-use trace_board::board::Board;
+use trace_board::board::TraceState;
 use trace_board::holds::{Hold, hold_to, longer};
 use trace_core::add;
 use trace_shapes::geometry::{LEFT, LINE, NAME_LEFT, NAME_LINE};
@@ -40,9 +40,9 @@ fn add_hold(buf: &mut [u8], at: usize, hold: &Hold) -> usize
 }
 
 // Adds the hold, or that there is none.
-fn add_told(buf: &mut [u8], at: usize, hold: Option<Hold>) -> usize
+fn add_reported(buf: &mut [u8], at: usize, hold: Option<Hold>) -> usize
     requires { at + 130 ≤ length buf.old }
-    ensures text { take result buf.new ≡ take at buf.old ++ told_hold hold }
+    ensures text { take result buf.new ≡ take at buf.old ++ reported_hold hold }
     ensures near { result ≤ at + 130 }
 {
     match hold {
@@ -123,14 +123,14 @@ fn add_hold_line(buf: &mut [u8], at: usize, low: u64, mutex: u32, hold: Option<H
     let at = add_sample(buf, at, low, mutex);
     let at = add_text_place(buf, at, b"<text class='t", x, y);
     let at = add_name_title(buf, at, mutex);
-    let at = add_told(buf, at, hold);
+    let at = add_reported(buf, at, hold);
     add(buf, at, b"</text>\n")
 }
 
 // The longest hold of the mutex; one that is under way counts up to the event before `count`.
-fn longest_in(board: &Board, count: u64, mutex: u32) -> Option<Hold>
+fn longest_in(board: &TraceState, count: u64, mutex: u32) -> Option<Hold>
     requires { mutex < 64 }
-    ensures { result ≡ longest_in (kept_of board.now) count mutex }
+    ensures { result ≡ longest_in (tracked_of board.now) count mutex }
 {
     longer(
         board.longest.at(mutex),
@@ -143,14 +143,14 @@ pub fn add_holds(
     buf: &mut [u8],
     at: usize,
     mutexes: u32,
-    board: &Board,
+    board: &TraceState,
     count: u64,
     low: u64,
 ) -> usize
     requires low { low < 2 ^ 60 }
     requires few { mutexes ≤ 64 }
     requires room { at + 560 * mutexes ≤ length buf.old }
-    ensures text { take result buf.new ≡ take at buf.old ++ holds_text mutexes (kept_of board.now) count low }
+    ensures text { take result buf.new ≡ take at buf.old ++ holds_text mutexes (tracked_of board.now) count low }
     ensures near { result ≤ at + 560 * mutexes }
 {
     let mut last = at;

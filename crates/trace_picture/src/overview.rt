@@ -1,15 +1,15 @@
 //! The overview of a long trace: a column for each band, written into a buffer after its first `at` bytes. Each call returns where it ended.
 ghost use Rattle.std.specs.Prelude.{◌≡◌, ◌+◌, ◌-◌, ◌*◌, ◌/◌, ◌%◌, ◌<◌, ◌≤◌, ◌^◌, ◌++◌, length, take, codes};
 ghost use Rattle.larch_actions.specs.Layout.{IsLawful};
-ghost use Rattle.trace_board.specs.Kept.{kept_of};
+ghost use Rattle.trace_board.specs.Tracked.{tracked_of};
 ghost use Rattle.trace_shapes.specs.Shapes.{with_number, each_below, place_text};
 ghost use Rattle.trace_picture.specs.Overview.{columns_height, over_x, over_y, cell_text, ran_cell, held_cell, link_text, column_text, over_height, over_style};
 
 use larch_actions::Layout;
-use trace_board::board::Board;
+use trace_board::board::TraceState;
 use trace_core::add;
 use trace_shapes::tags::{add_place, add_with_number};
-use trace_shapes::view::{View, count_bands};
+use trace_shapes::view::{DrawnRange, count_bands};
 
 // How high a row of a hundred columns is.
 #[tactic(auto, using(larch_actions::proofs::Names::few_threads))]
@@ -33,11 +33,19 @@ fn add_cell(buf: &mut [u8], at: usize, x: u64, y: u64) -> usize
 }
 
 // Adds the cell of a thread, where it had an event from the event `start` on.
-fn add_ran(buf: &mut [u8], at: usize, board: &Board, start: u64, x: u64, y: u64, t: u32) -> usize
+fn add_ran(
+    buf: &mut [u8],
+    at: usize,
+    board: &TraceState,
+    start: u64,
+    x: u64,
+    y: u64,
+    t: u32,
+) -> usize
     requires few { t < 256 }
     requires low { y < 2 ^ 60 }
     requires room { at + 120 ≤ length buf.old }
-    ensures text { take result buf.new ≡ take at buf.old ++ ran_cell (kept_of board.now) start x y t }
+    ensures text { take result buf.new ≡ take at buf.old ++ ran_cell (tracked_of board.now) start x y t }
     ensures near { result ≤ at + 120 }
 {
     if board.has_run(start, t) {
@@ -49,11 +57,19 @@ fn add_ran(buf: &mut [u8], at: usize, board: &Board, start: u64, x: u64, y: u64,
 }
 
 // Adds the cell of a mutex, where it was held from the event `start` on.
-fn add_held(buf: &mut [u8], at: usize, board: &Board, start: u64, x: u64, y: u64, m: u32) -> usize
+fn add_held(
+    buf: &mut [u8],
+    at: usize,
+    board: &TraceState,
+    start: u64,
+    x: u64,
+    y: u64,
+    m: u32,
+) -> usize
     requires few { m < 64 }
     requires low { y < 2 ^ 60 }
     requires room { at + 140 ≤ length buf.old }
-    ensures text { take result buf.new ≡ take at buf.old ++ held_cell (kept_of board.now) start x y m }
+    ensures text { take result buf.new ≡ take at buf.old ++ held_cell (tracked_of board.now) start x y m }
     ensures near { result ≤ at + 140 }
 {
     if board.was_held(start, m) {
@@ -68,7 +84,7 @@ fn add_held(buf: &mut [u8], at: usize, board: &Board, start: u64, x: u64, y: u64
 fn add_each_ran(
     buf: &mut [u8],
     at: usize,
-    board: &Board,
+    board: &TraceState,
     start: u64,
     x: u64,
     y: u64,
@@ -77,7 +93,7 @@ fn add_each_ran(
     requires few { threads ≤ 256 }
     requires low { y < 2 ^ 60 }
     requires room { at + 120 * threads ≤ length buf.old }
-    ensures text { take result buf.new ≡ take at buf.old ++ each_below (ran_cell (kept_of board.now) start x y) threads }
+    ensures text { take result buf.new ≡ take at buf.old ++ each_below (ran_cell (tracked_of board.now) start x y) threads }
     ensures near { result ≤ at + 120 * threads }
 {
     let mut last = at;
@@ -91,7 +107,7 @@ fn add_each_ran(
 fn add_each_held(
     buf: &mut [u8],
     at: usize,
-    board: &Board,
+    board: &TraceState,
     start: u64,
     x: u64,
     y: u64,
@@ -100,7 +116,7 @@ fn add_each_held(
     requires few { mutexes ≤ 64 }
     requires low { y < 2 ^ 60 }
     requires room { at + 140 * mutexes ≤ length buf.old }
-    ensures text { take result buf.new ≡ take at buf.old ++ each_below (held_cell (kept_of board.now) start x y) mutexes }
+    ensures text { take result buf.new ≡ take at buf.old ++ each_below (held_cell (tracked_of board.now) start x y) mutexes }
     ensures near { result ≤ at + 140 * mutexes }
 {
     let mut last = at;
@@ -129,7 +145,7 @@ pub fn add_column(
     buf: &mut [u8],
     at: usize,
     layout: &Layout,
-    board: &Board,
+    board: &TraceState,
     band: u64,
     start: u64,
     to: u64,
@@ -137,7 +153,7 @@ pub fn add_column(
     requires lawful { IsLawful layout.now }
     requires few { band < 2 ^ 42 }
     requires room { at + 40000 ≤ length buf.old }
-    ensures text { take result buf.new ≡ take at buf.old ++ column_text layout.now (kept_of board.now) band start to }
+    ensures text { take result buf.new ≡ take at buf.old ++ column_text layout.now (tracked_of board.now) band start to }
     ensures near { result ≤ at + 40000 }
 {
     let x = 44 + 12 * (band % 100);
@@ -150,7 +166,7 @@ pub fn add_column(
 }
 
 /// How much higher the overview makes the picture.
-pub fn height_of_overview(layout: &Layout, view: &View, count: u64) -> u64
+pub fn height_of_overview(layout: &Layout, view: &DrawnRange, count: u64) -> u64
     requires lawful { IsLawful layout.now }
     requires few { count < 2 ^ 42 }
     ensures height { result ≡ over_height layout.now view.now count }
@@ -165,7 +181,13 @@ pub fn height_of_overview(layout: &Layout, view: &View, count: u64) -> u64
 }
 
 /// Adds what shows the overview and moves the rest down, and the last tag.
-pub fn add_over_style(buf: &mut [u8], at: usize, layout: &Layout, view: &View, count: u64) -> usize
+pub fn add_over_style(
+    buf: &mut [u8],
+    at: usize,
+    layout: &Layout,
+    view: &DrawnRange,
+    count: u64,
+) -> usize
     requires lawful { IsLawful layout.now }
     requires few { count < 2 ^ 42 }
     requires room { at + 160 ≤ length buf.old }

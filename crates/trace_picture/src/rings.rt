@@ -8,7 +8,7 @@ ghost use Rattle.larch_actions.specs.Layout.{IsLawful};
 ghost use Rattle.larch_actions.specs.Actions.{Spec, Acts};
 ghost use Rattle.lock_order.specs.declared.answer.Edge.{Edge};
 ghost use Rattle.lock_order.specs.Kept.{HasPlace, IsKept};
-ghost use Rattle.trace_board.specs.Kept.{kept_of};
+ghost use Rattle.trace_board.specs.Tracked.{tracked_of};
 ghost use Rattle.trace_shapes.specs.Places.{band_of};
 ghost use Rattle.trace_picture.specs.Rings.{ring_y, ring_text, ring_if, rings_text, ringed_ending, ShowsOrdered, IsEnding, AreNoted, Sends};
 
@@ -17,11 +17,11 @@ use crate::endings::{add_end, add_last_closing, end_with};
 use firefly_outside::{Sink, SinkFault, put_all};
 use larch_actions::{Event, Layout};
 use lock_order::{Cycle, Edge, LockGraph, cycle_in};
-use trace_board::board::Board;
+use trace_board::board::TraceState;
 use trace_core::add;
 use trace_shapes::shapes::{event_x, mark_y};
 use trace_shapes::tags::add_with_number;
-use trace_shapes::view::{Band, View, band_of, is_in_view};
+use trace_shapes::view::{Band, DrawnRange, band_of, is_in_view};
 
 /// Notes what the event nests, where the lock order is wanted.
 #[inline(always)]
@@ -36,7 +36,7 @@ pub fn note_if(graph: &mut LockGraph, ordered: bool, e: &Event, place: u64)
 }
 
 // The upper edge of the mark that is ringed, in its band.
-fn top_of_ring(layout: &Layout, view: &View, band: &Band, edge: &Edge) -> u64
+fn top_of_ring(layout: &Layout, view: &DrawnRange, band: &Band, edge: &Edge) -> u64
     requires lawful { IsLawful layout.now }
     requires few { edge.now.place < 2 ^ 42 }
     requires band { band.now ≡ band_of layout.now view.now edge.now.place }
@@ -47,7 +47,7 @@ fn top_of_ring(layout: &Layout, view: &View, band: &Band, edge: &Edge) -> u64
 
 // Adds a ring.
 #[tactic(auto, unfolding(crate::specs::Rings::ring_text))]
-fn add_ring(buf: &mut [u8], at: usize, layout: &Layout, view: &View, edge: &Edge) -> usize
+fn add_ring(buf: &mut [u8], at: usize, layout: &Layout, view: &DrawnRange, edge: &Edge) -> usize
     requires lawful { IsLawful layout.now }
     requires few { edge.now.place < 2 ^ 42 }
     requires room { at + 220 ≤ length buf.old }
@@ -70,7 +70,7 @@ fn add_ring(buf: &mut [u8], at: usize, layout: &Layout, view: &View, edge: &Edge
 }
 
 // Adds the ring, where its event is drawn.
-fn add_ring_if(buf: &mut [u8], at: usize, layout: &Layout, view: &View, edge: &Edge) -> usize
+fn add_ring_if(buf: &mut [u8], at: usize, layout: &Layout, view: &DrawnRange, edge: &Edge) -> usize
     requires lawful { IsLawful layout.now }
     requires few { edge.now.place < 2 ^ 42 }
     requires room { at + 220 ≤ length buf.old }
@@ -85,7 +85,7 @@ fn add_ring_if(buf: &mut [u8], at: usize, layout: &Layout, view: &View, edge: &E
 }
 
 // Adds the rings of a cycle.
-fn add_rings(buf: &mut [u8], at: usize, layout: &Layout, view: &View, cycle: &Cycle) -> usize
+fn add_rings(buf: &mut [u8], at: usize, layout: &Layout, view: &DrawnRange, cycle: &Cycle) -> usize
     requires lawful { IsLawful layout.now }
     requires few { AllByRecursion (λ (n : Edge). n.place < 2 ^ 42) cycle.now }
     requires room { at + 220 * 64 ≤ length buf.old }
@@ -105,8 +105,8 @@ fn add_ringed_ending(
     buf: &mut [u8],
     at: usize,
     layout: &Layout,
-    view: &View,
-    board: &Board,
+    view: &DrawnRange,
+    board: &TraceState,
     cycle: &Cycle,
     count: u64,
 ) -> usize
@@ -114,7 +114,7 @@ fn add_ringed_ending(
     requires few { count < 2 ^ 42 }
     requires places { AllByRecursion (λ (n : Edge). n.place < 2 ^ 42) cycle.now }
     requires room { at + 440000 ≤ length buf.old }
-    ensures text { take result buf.new ≡ take at buf.old ++ ringed_ending layout.now view.now (kept_of board.now) count cycle.now }
+    ensures text { take result buf.new ≡ take at buf.old ++ ringed_ending layout.now view.now (tracked_of board.now) count cycle.now }
     ensures near { result ≤ at + 440000 }
 {
     let at = add_last_closing(buf, at, layout, view, board, count);
@@ -135,8 +135,8 @@ fn end_ringed<O: Sink>(
     buf: &mut [u8],
     at: usize,
     layout: &Layout,
-    view: &View,
-    board: &Board,
+    view: &DrawnRange,
+    board: &TraceState,
     cycle: &Cycle,
     count: u64,
     out: &mut O,
@@ -146,9 +146,9 @@ fn end_ringed<O: Sink>(
     requires places { AllByRecursion (λ (n : Edge). n.place < 2 ^ 42) cycle.now }
     requires room { at + 440000 ≤ length buf.old }
     ensures ok { OnOk result (Appends (O.held out.old) (O.held out.new)
-        (take at buf.old ++ ringed_ending layout.now view.now (kept_of board.now) count cycle.now)) }
+        (take at buf.old ++ ringed_ending layout.now view.now (tracked_of board.now) count cycle.now)) }
     ensures err { OnErr result (AppendsPrefix (O.held out.old) (O.held out.new)
-        (take at buf.old ++ ringed_ending layout.now view.now (kept_of board.now) count cycle.now)) }
+        (take at buf.old ++ ringed_ending layout.now view.now (tracked_of board.now) count cycle.now)) }
     ensures cause { HasCause (O.faults out.old) (O.faults out.new) result }
 {
     let end = add_ringed_ending(buf, at, layout, view, board, cycle, count);
@@ -160,8 +160,8 @@ fn end_ordered<O: Sink>(
     buf: &mut [u8],
     at: usize,
     layout: &Layout,
-    view: &View,
-    board: &Board,
+    view: &DrawnRange,
+    board: &TraceState,
     graph: &LockGraph,
     count: u64,
     out: &mut O,
@@ -171,7 +171,7 @@ fn end_ordered<O: Sink>(
     requires noted { AreNoted graph.now count }
     requires room { at + 440000 ≤ length buf.old }
     ensures ended { (es : List Event) (now : Spec) → IsKept es now graph.now
-        → (end : List ℕ) × ShowsOrdered layout.now view.now (kept_of board.now) count es end
+        → (end : List ℕ) × ShowsOrdered layout.now view.now (tracked_of board.now) count es end
         × Sends result (O.held out.old) (O.held out.new) (take at buf.old ++ end) }
     ensures cause { HasCause (O.faults out.old) (O.faults out.new) result }
 {
@@ -195,8 +195,8 @@ pub fn end_legal<O: Sink>(
     buf: &mut [u8],
     at: usize,
     layout: &Layout,
-    view: &View,
-    board: &Board,
+    view: &DrawnRange,
+    board: &TraceState,
     graph: &LockGraph,
     count: u64,
     out: &mut O,
@@ -206,7 +206,7 @@ pub fn end_legal<O: Sink>(
     requires noted { view.now.ordered ≡ true → AreNoted graph.now count }
     requires room { at + 440000 ≤ length buf.old }
     ensures ended { (es : List Event) (now : Spec) → (view.now.ordered ≡ true → IsKept es now graph.now)
-        → (end : List ℕ) × IsEnding view.now.ordered layout.now view.now (kept_of board.now) count es end
+        → (end : List ℕ) × IsEnding view.now.ordered layout.now view.now (tracked_of board.now) count es end
         × Sends result (O.held out.old) (O.held out.new) (take at buf.old ++ end) }
     ensures cause { HasCause (O.faults out.old) (O.faults out.new) result }
 {

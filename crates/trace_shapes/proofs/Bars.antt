@@ -4,7 +4,7 @@ use Rattle.std.specs.Prelude.{codes}
 use Rattle.larch_actions.specs.declared.event.Event.{Event}
 use Rattle.larch_actions.specs.declared.event.Broken.{Broken}
 use Rattle.trace_board.specs.declared.history.Origin.{Origin}
-use Rattle.trace_board.specs.declared.marks.Marks.{Marks}
+use Rattle.trace_board.specs.declared.marks.Effects.{Effects}
 use Rattle.trace_board.specs.Marks.{marks}
 use Rattle.trace_shapes.specs.declared.view.Band.{Band}
 use Rattle.trace_shapes.specs.declared.view.Reach.{Reach}
@@ -65,7 +65,7 @@ added_wait_name r o x y k old a b c d same_x same_y same one two three four =
     let shape : ℕ → ℕ → ℕ → List ℕ = λ u v z. codes "<text class='d" ++ place_text (u + NAME_LEFT) (v + WAIT_TOP + WAIT_LINE) ++ with_number (codes "'>c") z ++ codes "</text>\n" in
     added_four old a b c _ _ _ _ (codes "") one two three d four ∙ (λ i. old ++ shape (same_x i) (same_y i) (same i))
 
-pub added_object : (v : Band) (n : ℕ) (e : Event) (g x l y k : ℕ) (m : Marks) (old a b c d : List ℕ) → g ≡ digits_of m.object → x ≡ event_x v n → l ≡ number_left m.object → y ≡ row_y v e.thread.0 → m ≡ marks e → k ≡ m.object
+pub added_object : (v : Band) (n : ℕ) (e : Event) (g x l y k : ℕ) (m : Effects) (old a b c d : List ℕ) → g ≡ digits_of m.object → x ≡ event_x v n → l ≡ number_left m.object → y ≡ row_y v e.thread.0 → m ≡ marks e → k ≡ m.object
     → a ≡ old ++ with_number (codes "<text class='s") g → b ≡ a ++ place_text (x + l) (y + LETTER_LINE) → c ≡ b ++ with_number (codes "'>") k → d ≡ c ++ codes "</text>\n"
     → d ≡ old ++ object_text v n e
 unfolding object_text

@@ -4,29 +4,29 @@ use Rattle.larch_actions.specs.declared.event.Version.{Version}
 use Rattle.larch_actions.specs.declared.event.Version.TheVariants.{One, Two}
 use Rattle.larch_actions.specs.declared.event.Layout.{Layout}
 use Rattle.trace_board.specs.declared.history.Origin.{Origin}
-use Rattle.trace_shapes.specs.declared.view.View.{View}
+use Rattle.trace_shapes.specs.declared.view.DrawnRange.{DrawnRange}
 use Rattle.trace_shapes.specs.declared.view.Band.{Band}
 use Rattle.trace_shapes.specs.declared.view.Reach.{Reach}
 use Rattle.trace_shapes.specs.declared.geometry.TheConstants.{BAND, COLUMN, LEFT, AXIS, BAND_GAP, ROW, LANE, ROW_GAP, LANES, MARK_TOP, LANE_TOP, BAR_GAP, TOP_ONE, TOP_TWO}
 
 -- the event at place n is drawn
-abbrev pub in_view : View → ℕ → Bool
+abbrev pub in_view : DrawnRange → ℕ → Bool
 in_view v n = nat_le v.first n && nat_lt n v.end
 
 -- how many of the first n events are drawn
-abbrev pub shown : View → ℕ → ℕ
+abbrev pub shown : DrawnRange → ℕ → ℕ
 shown v n = min n v.end - v.first
 
 -- the column of the event in its band
-abbrev pub column : View → ℕ → ℕ
+abbrev pub column : DrawnRange → ℕ → ℕ
 column v n = (n - v.first) % BAND
 
 -- after n events the last band has room for more
-abbrev pub is_open : View → ℕ → Bool
+abbrev pub is_open : DrawnRange → ℕ → Bool
 is_open v n = nat_lt n v.end && not ((n - v.first) % BAND == 0)
 
 -- how many bands the first n events take
-abbrev pub bands : View → ℕ → ℕ
+abbrev pub bands : DrawnRange → ℕ → ℕ
 bands v n = (shown v n + (BAND - 1)) / BAND
 
 -- a row has a lane for each mutex and semaphore, and at most four
@@ -34,7 +34,7 @@ abbrev pub lanes_of : Layout → ℕ
 lanes_of l = min (l.mutexes + l.semaphores) LANES
 
 -- the band of the event n
-abbrev pub band_of : Layout → View → ℕ → Band
+abbrev pub band_of : Layout → DrawnRange → ℕ → Band
 band_of l v n = record { start = n - column v n; lanes = lanes_of l }
 
 -- how far below one another rows with so many lanes stand, and how high they are
@@ -58,7 +58,7 @@ abbrev pub band_top : Layout → ℕ → ℕ
 band_top l k = first_top l.version + k * band_height l
 
 -- how high the picture of n events is, but for its last lines
-abbrev pub height_of : Layout → View → ℕ → ℕ
+abbrev pub height_of : Layout → DrawnRange → ℕ → ℕ
 height_of l v n = band_top l (bands v n)
 
 -- the left edge of a column

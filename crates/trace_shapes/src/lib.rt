@@ -13,4 +13,4 @@ pub mod shapes;
 pub mod tags;
 pub mod view;
 
-pub use view::{Band, Link, Reach, Strip, View};
+pub use view::{Band, DrawnRange, Link, Reach, Strip};

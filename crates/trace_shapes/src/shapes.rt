@@ -14,7 +14,7 @@ use crate::tags::{add_box, add_line, add_place, add_with_number};
 use crate::view::{Band, Reach, Strip};
 use larch_actions::{Broken, Event};
 use trace_board::history::Origin;
-use trace_board::marks::{Mark, Marks};
+use trace_board::marks::{Effects, Mark};
 use trace_core::add;
 
 /// The left edge of a column.
@@ -119,7 +119,7 @@ pub fn add_mark(
     band: &Band,
     place: u64,
     e: &Event,
-    shown: &Marks,
+    shown: &Effects,
 ) -> usize
     requires same { shown.now ≡ marks e.now }
     requires place { place < 2 ^ 42 }
@@ -156,7 +156,14 @@ fn number_left(k: u32) -> u64
 
 // Adds the number of an event's object.
 #[tactic(auto, unfolding(crate::specs::Shapes::object_text))]
-fn add_object(buf: &mut [u8], at: usize, band: &Band, place: u64, e: &Event, shown: &Marks) -> usize
+fn add_object(
+    buf: &mut [u8],
+    at: usize,
+    band: &Band,
+    place: u64,
+    e: &Event,
+    shown: &Effects,
+) -> usize
     requires same { shown.now ≡ marks e.now }
     requires place { place < 2 ^ 42 }
     requires room { at + 140 ≤ length buf.old }
@@ -178,7 +185,7 @@ pub fn add_object_if(
     band: &Band,
     place: u64,
     e: &Event,
-    shown: &Marks,
+    shown: &Effects,
 ) -> usize
     requires same { shown.now ≡ marks e.now }
     requires place { place < 2 ^ 42 }

@@ -9,7 +9,7 @@ use trace_board::history::Origin;
 
 /// What of a trace is drawn: the events from `first` on and before `end`, and whether a cycle of its lock order is ringed.
 #[derive(Clone, Copy, Debug, PartialEq, Eq)]
-pub struct View {
+pub struct DrawnRange {
     pub first: u64,
     pub end: u64,
     pub ordered: bool,
@@ -49,14 +49,14 @@ pub struct Link {
 }
 
 /// Whether the event is drawn.
-pub fn is_in_view(view: &View, place: u64) -> bool
+pub fn is_in_view(view: &DrawnRange, place: u64) -> bool
     ensures { result ≡ in_view view.now place }
 {
     view.first <= place && place < view.end
 }
 
 /// The column of the event in its band.
-pub fn column_of(view: &View, place: u64) -> u64
+pub fn column_of(view: &DrawnRange, place: u64) -> u64
     ensures column { result ≡ column view.now place }
     ensures small { result < BAND }
     ensures before { result ≤ place }
@@ -65,14 +65,14 @@ pub fn column_of(view: &View, place: u64) -> u64
 }
 
 /// Whether the last band has room for more, after so many events.
-pub fn is_band_open(view: &View, count: u64) -> bool
+pub fn is_band_open(view: &DrawnRange, count: u64) -> bool
     ensures { result ≡ is_open view.now count }
 {
     count < view.end && count.saturating_sub(view.first) % BAND != 0
 }
 
 /// How many bands so many events take.
-pub fn count_bands(view: &View, count: u64) -> u64
+pub fn count_bands(view: &DrawnRange, count: u64) -> u64
     requires { count < 2 ^ 42 }
     ensures bands { result ≡ bands view.now count }
     ensures small { result < 2 ^ 42 }
@@ -89,7 +89,7 @@ pub fn lanes_of(layout: &Layout) -> u8
 }
 
 /// The band of the event.
-pub fn band_of(layout: &Layout, view: &View, place: u64) -> Band
+pub fn band_of(layout: &Layout, view: &DrawnRange, place: u64) -> Band
     requires { IsLawful layout.now }
     ensures { result ≡ band_of layout.now view.now place }
 {

@@ -19,7 +19,7 @@ use Rattle.std.specs.Cmp.Lexicographic.{slice_cmp}
 use Rattle.std.specs.Ordering.{nat_cmp}
 use Rattle.std.specs.Prelude.{Option, Some, None, IfSome, Ok}
 use Rattle.std.proofs.Common.{Vec, Global}
-use Rattle.firefly_outside.specs.Trees.{Told, Calls, Lists}
+use Rattle.firefly_outside.specs.Trees.{Contents, Calls, Lists}
 use Rattle.walker.specs.Listings.{IsListingOf, ListsDir}
 use Rattle.walker.specs.declared.listing.Listing.{Listing}
 use Rattle.walker.specs.Walk.{IsNamed}
@@ -145,12 +145,12 @@ named_same dir es ds kind same p = (
 )
 
 -- what a listing of a tree that tells gives
-pub told_listing : (o : Option Told) (weak : List Path) (dir : Path) (old new : Calls) (v : Vec Entry Global) (l : Listing)
+pub reported_listing : (o : Option Contents) (weak : List Path) (dir : Path) (old new : Calls) (v : Vec Entry Global) (l : Listing)
     → IfSome o (Lists (λ (v : Vec Entry Global). v.items) weak dir old new (Ok v))
     → ((p : Path) → Contains l.dirs.items p ↔ IsNamed dir v.items Dir p) → ((p : Path) → Contains l.files.items p ↔ IsNamed dir v.items File p)
     → IfSome o (ListsDir weak dir old new (Ok l))
-told_listing None weak dir old new v l h dirs files = tt
-told_listing (Some t) weak dir old new v l h dirs files = (
+reported_listing None weak dir old new v l h dirs files = tt
+reported_listing (Some t) weak dir old new v l h dirs files = (
   record {
     entries = h.0.entries;
     here = h.0.here;

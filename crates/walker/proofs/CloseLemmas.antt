@@ -1,7 +1,7 @@
 -- What the closing walk answers, from what its two parts tell.
 use Rattle.std.proofs.Common.{◌≡◌, ◌∙◌, ℕ, ◌+◌, List, [], ◌++◌, map, sym, ap, subst, inl, inr, Contains}
 use Rattle.std.specs.Prelude.{Option, Some, None, IfSome, Ok, Err}
-use Rattle.firefly_outside.specs.Trees.{Path, Told, Calls, child}
+use Rattle.firefly_outside.specs.Trees.{Path, Contents, Calls, child}
 use Rattle.firefly_outside.specs.Under.{IsUnder, AreMany}
 use Rattle.firefly_outside.specs.declared.tree.Kind.TheVariants.{Dir, File as a_file}
 use Rattle.word_index.specs.Index.{File, Index, IsIndexOf}
@@ -18,33 +18,33 @@ use Rattle.walker.proofs.Reached.{file_reached, listed_if_found, found_if_reache
 use Rattle.walker.proofs.Steps.{listed_under}
 
 -- a walk that stopped while it listed
-pub stopped_answer : (o : Option Told) (first w : Walk) (root : Path) (stop : Option ℕ) (weak : List Path) (before now : Calls) (answer : WalkAnswer) → first.root ≡ root
+pub stopped_answer : (o : Option Contents) (first w : Walk) (root : Path) (stop : Option ℕ) (weak : List Path) (before now : Calls) (answer : WalkAnswer) → first.root ≡ root
     → IfSome o (ListsRest {T = Unit {0}} first w stop weak before now (Err answer)) → IfSome o (Answers root stop weak answer)
 stopped_answer None first w root stop weak before now answer e h = tt
 stopped_answer (Some t) first w root stop weak before now answer e h = subst (λ (r : Path). Answers r stop weak answer t) e h.0
 
-pub stopped_once : (o : Option Told) (first w : Walk) (covered : List Path) (stop : Option ℕ) (weak : List Path) (before now : Calls) (answer : WalkAnswer)
+pub stopped_once : (o : Option Contents) (first w : Walk) (covered : List Path) (stop : Option ℕ) (weak : List Path) (before now : Calls) (answer : WalkAnswer)
     → IfSome o (ListsRest {T = Unit {0}} first w stop weak before now (Err answer)) → IfSome o (λ t. CallsOnce t first covered before now answer)
 stopped_once None first w covered stop weak before now answer h = tt
 stopped_once (Some t) first w covered stop weak before now answer h = h.1 covered
 
-pub stopped_passed : (o : Option Told) (first w : Walk) (stop : Option ℕ) (weak : List Path) (before now : Calls) (answer : WalkAnswer)
+pub stopped_passed : (o : Option Contents) (first w : Walk) (stop : Option ℕ) (weak : List Path) (before now : Calls) (answer : WalkAnswer)
     → IfSome o (ListsRest {T = Unit {0}} first w stop weak before now (Err answer)) → IfSome o (EndsPassed first stop before now answer)
 stopped_passed None first w stop weak before now answer h = tt
 stopped_passed (Some t) first w stop weak before now answer h = h.2
 
 -- the piece is still a part of the walk that found more
-pub IsPartOf-grows : (o q : Option Told) (w v : Walk) (piece : Index) → o ≡ q → Grows w v → IsPartOf o w piece → IsPartOf q v piece
+pub IsPartOf-grows : (o q : Option Contents) (w v : Walk) (piece : Index) → o ≡ q → Grows w v → IsPartOf o w piece → IsPartOf q v piece
 IsPartOf-grows o q w v piece e grows part = record {
   files = part.files;
   index = part.index;
   found = λ f k. grows.files f.path (part.found f k);
-  told = subst (λ (p : Option Told). IfSome p (λ t. (f : File) → Contains part.files f → IsFileAt t v.root f)) e
-      (subst (λ (r : Path). IfSome o (λ t. (f : File) → Contains part.files f → IsFileAt t r f)) (sym grows.root) part.told);
+  reported = subst (λ (p : Option Contents). IfSome p (λ t. (f : File) → Contains part.files f → IsFileAt t v.root f)) e
+      (subst (λ (r : Path). IfSome o (λ t. (f : File) → Contains part.files f → IsFileAt t r f)) (sym grows.root) part.reported);
 }
 
 -- a walk that was listed whole
-pub end_answer : (o : Option Told) (first w : Walk) (root : Path) (covered : List Path) (stop : Option ℕ) (weak vague : List Path) (before mid now : Calls) (answer : WalkAnswer) → w.root ≡ root → IsWithinLimits w stop → IsListedWhole w
+pub end_answer : (o : Option Contents) (first w : Walk) (root : Path) (covered : List Path) (stop : Option ℕ) (weak vague : List Path) (before mid now : Calls) (answer : WalkAnswer) → w.root ≡ root → IsWithinLimits w stop → IsListedWhole w
     → IfSome o (ListsRest {T = Unit {0}} first w stop vague before mid (Ok tt)) → IfSome o (ReadsRest w covered weak mid now answer) → IfSome o (Answers root stop weak answer)
 end_answer None first w root covered stop weak vague before mid now answer e limits listed l r = tt
 end_answer (Some t) first w root covered stop weak vague before mid now (Done piece) e limits listed l r = record {
@@ -58,7 +58,7 @@ end_answer (Some t) first w root covered stop weak vague before mid now (TooMany
 end_answer (Some t) first w root covered stop weak vague before mid now Memory e limits listed l r = tt
 
 -- the calls of both parts
-calls_once : (t : Told) (first w : Walk) (covered : List Path) (before mid now : Calls) (answer : WalkAnswer) → w.root ≡ first.root → IsWalkOf w t → IsListedWhole w → ListsMore first w before mid → ReadsSome w covered mid now answer
+calls_once : (t : Contents) (first w : Walk) (covered : List Path) (before mid now : Calls) (answer : WalkAnswer) → w.root ≡ first.root → IsWalkOf w t → IsListedWhole w → ListsMore first w before mid → ReadsSome w covered mid now answer
     → CallsOnce t first covered before now answer
 calls_once t first w covered before mid now answer e walk whole m r = record {
   dirs = m.dirs;
@@ -87,7 +87,7 @@ calls_once t first w covered before mid now answer e walk whole m r = record {
   failed = r.failed ∙ ap (λ l. l ++ failed_by answer) m.failed;
 }
 
-pub end_once : (o : Option Told) (first w : Walk) (covered : List Path) (stop : Option ℕ) (weak vague : List Path) (before mid now : Calls) (answer : WalkAnswer) → w.root ≡ first.root → IsListedWhole w
+pub end_once : (o : Option Contents) (first w : Walk) (covered : List Path) (stop : Option ℕ) (weak vague : List Path) (before mid now : Calls) (answer : WalkAnswer) → w.root ≡ first.root → IsListedWhole w
     → IfSome o (ListsRest {T = Unit {0}} first w stop vague before mid (Ok tt)) → IfSome o (ReadsRest w covered weak mid now answer) → IfSome o (λ t. CallsOnce t first covered before now answer)
 end_once None first w covered stop weak vague before mid now answer e whole l r = tt
 end_once (Some t) first w covered stop weak vague before mid now (Done piece) e whole l r = calls_once t first w covered before mid now (Done piece) e l.0 whole l.1 r.1
@@ -97,22 +97,22 @@ end_once (Some t) first w covered stop weak vague before mid now (TooMany many) 
 end_once (Some t) first w covered stop weak vague before mid now Memory e whole l r = calls_once t first w covered before mid now Memory e l.0 whole l.1 r
 
 -- a walk that was listed whole within its limits
-pub end_passed : (o : Option Told) (first w : Walk) (covered : List Path) (stop : Option ℕ) (weak vague : List Path) (before mid now : Calls) (answer : WalkAnswer) → IsSound w → IsWithinLimits w stop
+pub end_passed : (o : Option Contents) (first w : Walk) (covered : List Path) (stop : Option ℕ) (weak vague : List Path) (before mid now : Calls) (answer : WalkAnswer) → IsSound w → IsWithinLimits w stop
     → IfSome o (ListsRest {T = Unit {0}} first w stop vague before mid (Ok tt)) → IfSome o (ReadsRest w covered weak mid now answer) → IfSome o (EndsPassed first stop before now answer)
 end_passed None first w covered stop weak vague before mid now answer sound limits l r = tt
-end_passed (Some t) first w covered stop weak vague before mid now (Done piece) sound limits l r = record { walk = w; calls = mid; reached = record { sound = sound; told = l.0; more = l.1 }; limits = limits; listed = r.1.listed }
+end_passed (Some t) first w covered stop weak vague before mid now (Done piece) sound limits l r = record { walk = w; calls = mid; reached = record { sound = sound; reported = l.0; more = l.1 }; limits = limits; listed = r.1.listed }
 end_passed (Some t) first w covered stop weak vague before mid now (Stopped many) sound limits l r = absurd r
-end_passed (Some t) first w covered stop weak vague before mid now (ReadFault path) sound limits l r = record { walk = w; calls = mid; reached = record { sound = sound; told = l.0; more = l.1 }; limits = limits; listed = r.1.listed }
+end_passed (Some t) first w covered stop weak vague before mid now (ReadFault path) sound limits l r = record { walk = w; calls = mid; reached = record { sound = sound; reported = l.0; more = l.1 }; limits = limits; listed = r.1.listed }
 end_passed (Some t) first w covered stop weak vague before mid now (TooMany many) sound limits l r = absurd r
 end_passed (Some t) first w covered stop weak vague before mid now Memory sound limits l r = tt
 
-pub moved_rest : (o q : Option Told) (w : Walk) (covered weak vague : List Path) (mid now : Calls) (answer : WalkAnswer) → o ≡ q → weak ≡ vague → IfSome o (ReadsRest w covered weak mid now answer) → IfSome q (ReadsRest w covered vague mid now answer)
-moved_rest o q w covered weak vague mid now answer e f h = subst (λ (p : Option Told). IfSome p (ReadsRest w covered vague mid now answer)) e (subst (λ (v : List Path). IfSome o (ReadsRest w covered v mid now answer)) f h)
+pub moved_rest : (o q : Option Contents) (w : Walk) (covered weak vague : List Path) (mid now : Calls) (answer : WalkAnswer) → o ≡ q → weak ≡ vague → IfSome o (ReadsRest w covered weak mid now answer) → IfSome q (ReadsRest w covered vague mid now answer)
+moved_rest o q w covered weak vague mid now answer e f h = subst (λ (p : Option Contents). IfSome p (ReadsRest w covered vague mid now answer)) e (subst (λ (v : List Path). IfSome o (ReadsRest w covered v mid now answer)) f h)
 
 -- a piece that covers nothing is a part of every walk
-pub IsPartOf-none : (o : Option Told) (w : Walk) (piece : Index) → IsIndexOf [] piece → IsPartOf o w piece
-IsPartOf-none o w piece index = record { files = []; index = index; found = λ f h. absurd (Contains-nil f h); told = at o }
+pub IsPartOf-none : (o : Option Contents) (w : Walk) (piece : Index) → IsIndexOf [] piece → IsPartOf o w piece
+IsPartOf-none o w piece index = record { files = []; index = index; found = λ f h. absurd (Contains-nil f h); reported = at o }
   where
-    at : (q : Option Told) → IfSome q (λ t. (f : File) → Contains [] f → IsFileAt t w.root f)
+    at : (q : Option Contents) → IfSome q (λ t. (f : File) → Contains [] f → IsFileAt t w.root f)
     at None = tt
     at (Some t) = λ f h. absurd (Contains-nil f h)

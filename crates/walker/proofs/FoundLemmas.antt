@@ -18,7 +18,7 @@ use Rattle.firefly_outside.specs.Trees.{Path, child, slash}
 use Rattle.walker.specs.Found.{AreBelow, AreNew, IsBelow, name_in, names_in}
 use Rattle.walker.specs.Walk.{pairs_of, marked}
 
--- an element at the front, and one behind it
+-- an element at the front, and one after it
 pub Contains-head : {X : Type 0} (x : X) (xs : List X) → Contains (x ∷ xs) x
 Contains-head x xs = (0, omega arith, refl)
 
@@ -69,7 +69,7 @@ not_yet old prefix p rest new among = elim (Contains-append_cases old prefix p a
       (get_or_append_left prefix (p ∷ rest) p before.0 before.1 ∙ before.2 ∙ sym (get_or-append_seam prefix p rest p))
 ]
 
--- the paths of directories with unlisted ones behind them
+-- the paths of directories with unlisted ones after them
 pub names-append : (pairs : List (Path × Bool)) (prefix : List Path) → map (λ d. d.0) (pairs ++ map (λ p. (p, false)) prefix) ≡ map (λ d. d.0) pairs ++ prefix
 names-append [] [] = refl
 names-append [] (p ∷ prefix) = ap (λ l. p ∷ l) (names-append [] prefix)

@@ -5,12 +5,12 @@ use Rattle.std.specs.String.{string_bytes}
 use Rattle.std.specs.declared.string.String.{String}
 use Rattle.std.proofs.lemmas.List.{map-append}
 use Rattle.std.proofs.lemmas.List.Elements.{Contains-append_cases, Contains-append_left, Contains-append_right}
-use Rattle.firefly_outside.specs.Trees.{Path, Told, Directory, child}
+use Rattle.firefly_outside.specs.Trees.{Path, Contents, Directory, child}
 use Rattle.firefly_outside.specs.declared.tree.Entry.{Entry}
 use Rattle.firefly_outside.specs.declared.tree.Kind.{Kind}
 use Rattle.firefly_outside.specs.declared.tree.Kind.TheVariants.{File, Dir}
 use Rattle.walker.specs.Walk.{Walk, dirs_of, files_of, IsListed, IsUnlisted, HasListedParent, IsSound, new_walk, marked, IsNamed, IsSeen, IsWalkOf}
-use Rattle.walker.specs.Listings.{IsListingOf, IsToldBy, Notes}
+use Rattle.walker.specs.Listings.{IsListingOf, IsReportedBy, Notes}
 use Rattle.walker.specs.declared.listing.Listing.{Listing}
 use Rattle.walker.proofs.ListLemmas.{Distinct, Contains-head, Contains-nil, Contains-cons_cases, Contains-map, AllPairs-nil, AllPairs-append}
 use Rattle.walker.proofs.WalkLemmas.{noted, dirs_of-noted, listed_stays, listed_now, listed_from, found_unlisted, child_is_below, AreNew-dirs, AreNew-files}
@@ -59,45 +59,45 @@ module _ (w : Walk) (dir : Path) (l : Listing) (names : List Path) (sound : IsSo
         ];
       }
 
-  seen_stays : (t : Told) (kind : Kind) (p : Path) → IsSeen t w kind p → IsSeen t (noted w dir l.dirs.items names) kind p
+  seen_stays : (t : Contents) (kind : Kind) (p : Path) → IsSeen t w kind p → IsSeen t (noted w dir l.dirs.items names) kind p
   seen_stays t kind p s = record { dir = s.dir; entries = s.entries; listed = listed_stays w dir l.dirs.items names s.dir s.listed; here = s.here; named = s.named }
 
-  seen_now : (t : Told) (told : IsToldBy t dir l) (kind : Kind) (p : Path) → IsNamed dir told.entries kind p → IsSeen t (noted w dir l.dirs.items names) kind p
-  seen_now t told kind p n = record { dir = dir; entries = told.entries; listed = listed_now w dir l.dirs.items names off; here = told.here; named = n }
+  seen_now : (t : Contents) (reported : IsReportedBy t dir l) (kind : Kind) (p : Path) → IsNamed dir reported.entries kind p → IsSeen t (noted w dir l.dirs.items names) kind p
+  seen_now t reported kind p n = record { dir = dir; entries = reported.entries; listed = listed_now w dir l.dirs.items names off; here = reported.here; named = n }
 
-  seen_cases : (t : Told) (told : IsToldBy t dir l) (kind : Kind) (p : Path) → IsSeen t (noted w dir l.dirs.items names) kind p → IsSeen t w kind p ⊎ IsNamed dir told.entries kind p
-  seen_cases t told kind p s = elim (listed_from w dir l.dirs.items names s.dir s.listed) [
+  seen_cases : (t : Contents) (reported : IsReportedBy t dir l) (kind : Kind) (p : Path) → IsSeen t (noted w dir l.dirs.items names) kind p → IsSeen t w kind p ⊎ IsNamed dir reported.entries kind p
+  seen_cases t reported kind p s = elim (listed_from w dir l.dirs.items names s.dir s.listed) [
     | inl was ↦ inl (record { dir = s.dir; entries = s.entries; listed = was; here = s.here; named = s.named })
     | inr now ↦ (
-        let both : Some (Directory s.entries) ≡ Some (Directory told.entries) = sym s.here ∙ ap t now ∙ told.here in
-        let same : s.entries ≡ told.entries = cc in
-        inr (subst (λ (d : Path). IsNamed d told.entries kind p) now (subst (λ (es : List Entry). IsNamed s.dir es kind p) same s.named)))
+        let both : Some (Directory s.entries) ≡ Some (Directory reported.entries) = sym s.here ∙ ap t now ∙ reported.here in
+        let same : s.entries ≡ reported.entries = cc in
+        inr (subst (λ (d : Path). IsNamed d reported.entries kind p) now (subst (λ (es : List Entry). IsNamed s.dir es kind p) same s.named)))
   ]
 
-  pub IsWalkOf-noted : (t : Told) → IsWalkOf w t → IsToldBy t dir l → IsWalkOf (noted w dir l.dirs.items names) t
-  IsWalkOf-noted t walk told = record {
+  pub IsWalkOf-noted : (t : Contents) → IsWalkOf w t → IsReportedBy t dir l → IsWalkOf (noted w dir l.dirs.items names) t
+  IsWalkOf-noted t walk reported = record {
     listed = λ d h. elim (listed_from w dir l.dirs.items names d h) [
       | inl was ↦ walk.listed d was
-      | inr now ↦ (told.entries, ap t now ∙ told.here)
+      | inr now ↦ (reported.entries, ap t now ∙ reported.here)
     ];
     dirs = λ p. (
       λ h. elim (found_cases p h) [
         | inl was ↦ elim ((walk.dirs p).0 was) [ inl root ↦ inl root | inr s ↦ inr (seen_stays t Dir p s) ]
-        | inr new ↦ inr (seen_now t told Dir p ((told.dirs p).0 new))
+        | inr new ↦ inr (seen_now t reported Dir p ((reported.dirs p).0 new))
       ],
       λ h. elim h [
         | inl root ↦ found_old p ((walk.dirs p).1 (inl root))
-        | inr s ↦ elim (seen_cases t told Dir p s) [ inl was ↦ found_old p ((walk.dirs p).1 (inr was)) | inr n ↦ found_new p ((told.dirs p).1 n) ]
+        | inr s ↦ elim (seen_cases t reported Dir p s) [ inl was ↦ found_old p ((walk.dirs p).1 (inr was)) | inr n ↦ found_new p ((reported.dirs p).1 n) ]
       ],
     );
     files = λ p. (
       λ h. elim (Contains-append_cases (files_of w) l.files.items p (subst (λ (ps : List Path). Contains ps p) files_are h)) [
         | inl was ↦ seen_stays t File p ((walk.files p).0 was)
-        | inr new ↦ seen_now t told File p ((told.files p).0 new)
+        | inr new ↦ seen_now t reported File p ((reported.files p).0 new)
       ],
-      λ s. subst (λ (ps : List Path). Contains ps p) (sym files_are) (elim (seen_cases t told File p s) [
+      λ s. subst (λ (ps : List Path). Contains ps p) (sym files_are) (elim (seen_cases t reported File p s) [
         | inl was ↦ Contains-append_left (files_of w) l.files.items p ((walk.files p).1 was)
-        | inr n ↦ Contains-append_right (files_of w) l.files.items p ((told.files p).1 n)
+        | inr n ↦ Contains-append_right (files_of w) l.files.items p ((reported.files p).1 n)
       ]),
     );
   }
@@ -122,7 +122,7 @@ none_listed root d h = elim (Contains-cons_cases (root, false) [] (d, true) h) [
   | inr m ↦ absurd (Contains-nil (d, true) m)
 ]
 
-pub IsWalkOf-new : (root : Path) (t : Told) → IsWalkOf (new_walk root) t
+pub IsWalkOf-new : (root : Path) (t : Contents) → IsWalkOf (new_walk root) t
 IsWalkOf-new root t = record {
   listed = λ d h. absurd (none_listed root d h);
   dirs = λ p. (

@@ -3,7 +3,7 @@ use Rattle.std.proofs.Common.{◌≡◌, ◌≢◌, ◌∙◌, ℕ, ◌+◌, ◌
 use Rattle.std.specs.Prelude.{Option, Some, None, IfSome, Result, Ok, Err}
 use Rattle.std.proofs.lemmas.List.{append_assoc, append-nil, map-append, take_more, get_or-take, length-take, take_all}
 use Rattle.std.proofs.lemmas.List.Elements.{Contains-append_cases, Contains-append_left, Contains-append_right, Contains-push, Contains-push_cases}
-use Rattle.firefly_outside.specs.Trees.{Path, Told, Calls, Reads, IsFault, child}
+use Rattle.firefly_outside.specs.Trees.{Path, Contents, Calls, Reads, IsFault, child}
 use Rattle.firefly_outside.specs.Under.{IsUnder, IsThere}
 use Rattle.firefly_outside.specs.declared.tree.Kind.TheVariants.{File as a_file}
 use Rattle.firefly_outside.specs.declared.tree.TreeError.TheVariants as TreeError
@@ -28,10 +28,10 @@ abbrev pub paths_of : List File → List Path
 paths_of files = map (λ f. f.path) files
 
 -- what tells of a file that could not be read
-pub told_read_fault : (o : Option Told) (weak : List Path) (root name path at : Path) (before now : Calls) → at ≡ child root name → path ≡ child root name
+pub reported_read_fault : (o : Option Contents) (weak : List Path) (root name path at : Path) (before now : Calls) → at ≡ child root name → path ≡ child root name
     → IfSome o (Reads weak at before now (Err TreeError.Failed)) → IfSome o (ReadsNext {T = FileBytes} root name weak before now (Err (ReadFault path)))
-told_read_fault None weak root name path at before now e f h = tt
-told_read_fault (Some t) weak root name path at before now e f h = (f, subst (λ (p : Path). IsFault weak p (IsThere t a_file p) before now) e h)
+reported_read_fault None weak root name path at before now e f h = tt
+reported_read_fault (Some t) weak root name path at before now e f h = (f, subst (λ (p : Path). IsFault weak p (IsThere t a_file p) before now) e h)
 
 -- an element isn't before its place in a list of distinct ones
 not_before : (xs : List Path) (at : ℕ) (x : Path) → Distinct xs → slice_get xs at ≡ Some x → ¬ Contains (take at xs) x
@@ -51,7 +51,7 @@ paths_push : (files : List File) (f : File) (name : Path) → f.path ≡ name �
 paths_push files f name called = map-append (λ (g : File). g.path) files (f ∷ []) ∙ ap (λ q. paths_of files ++ q ∷ []) called
 
 -- a file that is covered
-pub HasRead-covered : (o : Option Told) (w : Walk) (covered : List Path) (start before : Calls) (at : ℕ) (Kept : List File → Type 0) (name : Path) → slice_get w.files at ≡ Some name → Contains covered name
+pub HasRead-covered : (o : Option Contents) (w : Walk) (covered : List Path) (start before : Calls) (at : ℕ) (Kept : List File → Type 0) (name : Path) → slice_get w.files at ≡ Some name → Contains covered name
     → HasRead o w covered start before at Kept → HasRead o w covered start before (at + 1) Kept
 HasRead-covered o w covered start before at Kept name here is h = record {
   files = h.files;
@@ -62,14 +62,14 @@ HasRead-covered o w covered start before at Kept name here is h = record {
     | inl was ↦ h.all p was
     | inr same ↦ inl (subst (λ (q : Path). Contains covered q) same is)
   ];
-  told = h.told;
+  reported = h.reported;
 }
 
 reads_push : (start : Calls) (root : Path) (names : List Path) (name : Path) → with_read (with_reads start root names) (child root name) ≡ with_reads start root (names ++ name ∷ [])
 reads_push start root names name = ap (λ l. record start { files_read = l }) (append_assoc start.files_read (map (child root) names) (child root name ∷ []) ∙ ap (λ l. start.files_read ++ l) (sym (map-append (child root) names (name ∷ []))))
 
 -- one more file among those read
-module _ (o : Option Told) (w : Walk) (covered : List Path) (start before : Calls) (at : ℕ) (Kept : List File → Type 0) (name : Path)
+module _ (o : Option Contents) (w : Walk) (covered : List Path) (start before : Calls) (at : ℕ) (Kept : List File → Type 0) (name : Path)
     (sound : IsSound w) (here : slice_get w.files at ≡ Some name) (fresh : ¬ Contains covered name) (h : HasRead o w covered start before at Kept) where
   pub names_once : Distinct (paths_of h.files ++ name ∷ [])
   names_once = AllPairs-append (λ p q. p ≢ q) (paths_of h.files) (name ∷ []) h.once (AllPairs-one (λ p q. p ≢ q) name)
@@ -92,7 +92,7 @@ module _ (o : Option Told) (w : Walk) (covered : List Path) (start before : Call
 
   pub HasRead-next : (now : Calls) (More : List File → Type 0) (f : File) → f.path ≡ name → IfSome o (λ t. IsFileAt t w.root f) → ((fs : List File) → Kept fs → More (fs ++ f ∷ []))
       → IfSome o (λ _. now ≡ with_read before (child w.root name)) → HasRead o w covered start now (at + 1) More
-  HasRead-next now More f called here_told keeps calls = record {
+  HasRead-next now More f called here_reported keeps calls = record {
     files = h.files ++ f ∷ [];
     kept = keeps h.files h.kept;
     once = subst Distinct (sym are) names_once;
@@ -104,13 +104,13 @@ module _ (o : Option Told) (w : Walk) (covered : List Path) (start before : Call
       | inl was ↦ elim (h.all p was) [ inl c ↦ inl c | inr r ↦ inr (subst (λ (ps : List Path). Contains ps p) (sym are) (Contains-append_left (paths_of h.files) (name ∷ []) p r)) ]
       | inr same ↦ inr (subst (λ (ps : List Path). Contains ps p) (sym are) (subst (λ (q : Path). Contains (paths_of h.files ++ name ∷ []) q) same (Contains-push (paths_of h.files) name)))
     ];
-    told = tells o h.told here_told calls;
+    reported = tells o h.reported here_reported calls;
   }
     where
       are : paths_of (h.files ++ f ∷ []) ≡ paths_of h.files ++ name ∷ []
       are = paths_push h.files f name called
 
-      tells : (q : Option Told) → IfSome q (λ t. ((g : File) → Contains h.files g → IsFileAt t w.root g) × (before ≡ with_reads start w.root (paths_of h.files)))
+      tells : (q : Option Contents) → IfSome q (λ t. ((g : File) → Contains h.files g → IsFileAt t w.root g) × (before ≡ with_reads start w.root (paths_of h.files)))
           → IfSome q (λ t. IsFileAt t w.root f) → IfSome q (λ _. now ≡ with_read before (child w.root name))
           → IfSome q (λ t. ((g : File) → Contains (h.files ++ f ∷ []) g → IsFileAt t w.root g) × (now ≡ with_reads start w.root (paths_of (h.files ++ f ∷ []))))
       tells None was new k = tt
@@ -122,7 +122,7 @@ module _ (o : Option Told) (w : Walk) (covered : List Path) (start before : Call
   -- memory wants or the file can't be read
   pub stops_next : (answer : WalkAnswer) (weak : List Path) (now : Calls) → IfSome o (ReadsNext {T = FileBytes} w.root name weak before now (Err answer))
       → IfSome o (λ t. IsWalkOf w t → StopsReading w weak answer t × ReadsSome w covered start now answer)
-  stops_next answer weak now k = stops o answer h.told k
+  stops_next answer weak now k = stops o answer h.reported k
     where
       some : (answer : WalkAnswer) (names : List Path) → ¬ IsDone answer → Distinct names → ((p : Path) → Contains names p → ¬ Contains covered p) → ((p : Path) → Contains names p → Contains w.files p) → now ≡ record (with_reads start w.root names) { failed = start.failed ++ failed_by answer } → ReadsSome w covered start now answer
       some answer names undone once new found is = record {
@@ -142,7 +142,7 @@ module _ (o : Option Told) (w : Walk) (covered : List Path) (start before : Call
       no_more : (c : Calls) → c ≡ record c { failed = c.failed ++ [] }
       no_more c = ap (λ l. record c { failed = l }) (sym (append-nil c.failed))
 
-      stops : (q : Option Told) (answer : WalkAnswer) → IfSome q (λ t. ((g : File) → Contains h.files g → IsFileAt t w.root g) × (before ≡ with_reads start w.root (paths_of h.files)))
+      stops : (q : Option Contents) (answer : WalkAnswer) → IfSome q (λ t. ((g : File) → Contains h.files g → IsFileAt t w.root g) × (before ≡ with_reads start w.root (paths_of h.files)))
           → IfSome q (ReadsNext {T = FileBytes} w.root name weak before now (Err answer)) → IfSome q (λ t. IsWalkOf w t → StopsReading w weak answer t × ReadsSome w covered start now answer)
       stops None answer was k = tt
       stops (Some t) (Done piece) was k = absurd k
@@ -164,34 +164,34 @@ module _ (o : Option Told) (w : Walk) (covered : List Path) (start before : Call
             (more ∙ ap (λ (c : Calls). with_read c (child w.root name)) was.1 ∙ reads_push start w.root (paths_of h.files) name ∙ no_more (with_reads start w.root (paths_of h.files ++ name ∷ []))),
       )
 
-told_none : (o : Option Told) (w : Walk) (c : Calls) → IfSome o (λ t. ((f : File) → Contains [] f → IsFileAt t w.root f) × (c ≡ with_reads c w.root []))
-told_none None w c = tt
-told_none (Some t) w c = (λ f k. absurd (Contains-nil f k), ap (λ l. record c { files_read = l }) (sym (append-nil c.files_read)))
+reported_none : (o : Option Contents) (w : Walk) (c : Calls) → IfSome o (λ t. ((f : File) → Contains [] f → IsFileAt t w.root f) × (c ≡ with_reads c w.root []))
+reported_none None w c = tt
+reported_none (Some t) w c = (λ f k. absurd (Contains-nil f k), ap (λ l. record c { files_read = l }) (sym (append-nil c.files_read)))
 
 -- nothing is read yet
-pub HasRead-none : (o : Option Told) (w : Walk) (covered : List Path) (c : Calls) (Kept : List File → Type 0) → Kept [] → HasRead o w covered c c 0 Kept
+pub HasRead-none : (o : Option Contents) (w : Walk) (covered : List Path) (c : Calls) (Kept : List File → Type 0) → Kept [] → HasRead o w covered c c 0 Kept
 HasRead-none o w covered c Kept none = record {
   files = [];
   kept = none;
   once = AllPairs-nil (λ p q. p ≢ q);
   early = λ p k. absurd (Contains-nil p k);
   all = λ p k. absurd (omega (arith, k.1, length-take 0 w.files));
-  told = told_none o w c;
+  reported = reported_none o w c;
 }
 
 -- nothing is left to be read
-pub HasRead-all : (o : Option Told) (w : Walk) (covered : List Path) (c : Calls) (Kept : List File → Type 0) → Kept [] → ((p : Path) → Contains w.files p → Contains covered p) → HasRead o w covered c c (length w.files) Kept
+pub HasRead-all : (o : Option Contents) (w : Walk) (covered : List Path) (c : Calls) (Kept : List File → Type 0) → Kept [] → ((p : Path) → Contains w.files p → Contains covered p) → HasRead o w covered c c (length w.files) Kept
 HasRead-all o w covered c Kept none all = record {
   files = [];
   kept = none;
   once = AllPairs-nil (λ p q. p ≢ q);
   early = λ p k. absurd (Contains-nil p k);
   all = λ p k. inl (all p (Contains-take (length w.files) w.files p k));
-  told = told_none o w c;
+  reported = reported_none o w c;
 }
 
 -- a piece of files found that covers as many as were found covers each
-pub covers_all : (o : Option Told) (w : Walk) (piece : Index) → IsPartOf o w piece → length piece.paths ≡ length w.files → (p : Path) → Contains w.files p → Contains piece.paths p
+pub covers_all : (o : Option Contents) (w : Walk) (piece : Index) → IsPartOf o w piece → length piece.paths ≡ length w.files → (p : Path) → Contains w.files p → Contains piece.paths p
 covers_all o w piece part many = all_paths piece.paths w.files
     (λ i j d below within same. not_below (get_or piece.paths i d) (get_or piece.paths j d) same (part.index.ordered.paths i j d below within))
     (λ p k.
@@ -200,18 +200,18 @@ covers_all o w piece part many = all_paths piece.paths w.files
     many
 
 -- the piece of the start meets none of the pile
-pub apart_first : (o : Option Told) (w : Walk) (first : Index) (start now : Calls) (at : ℕ) (pieces : List Index) → HasRead o w first.paths start now at (IsPileOf pieces) → AreApart pieces → AreApart (first ∷ pieces)
+pub apart_first : (o : Option Contents) (w : Walk) (first : Index) (start now : Calls) (at : ℕ) (pieces : List Index) → HasRead o w first.paths start now at (IsPileOf pieces) → AreApart pieces → AreApart (first ∷ pieces)
 apart_first o w first start now at pieces h apart =
     AllPairs-cons NoMeet first pieces (All-from (NoMeet first) pieces (λ a k meet. (h.early meet.0 (pile_paths pieces h.files a meet.0 h.kept k meet.2)).1 meet.1)) apart
 
 -- all is read and covered: the index of the tree
-pub tree_index : (t : Told) (w : Walk) (first whole : Index) (start now : Calls) (pieces : List Index) → IsWalkOf w t → IsListedWhole w → (part : IsPartOf (Some t) w first) → (h : HasRead (Some t) w first.paths start now (length w.files) (IsPileOf pieces))
+pub tree_index : (t : Contents) (w : Walk) (first whole : Index) (start now : Calls) (pieces : List Index) → IsWalkOf w t → IsListedWhole w → (part : IsPartOf (Some t) w first) → (h : HasRead (Some t) w first.paths start now (length w.files) (IsPileOf pieces))
     → IsIndexOf (part.files ++ h.files) whole → IsTreeIndex t w.root whole
 tree_index t w first whole start now pieces walk listed part h index = record {
   files = part.files ++ h.files;
   index = index;
   under = λ f k. file_reached t w walk (child w.root f.path) (Contains-map (child w.root) w.files f.path (found f k));
-  told = λ f k. elim (Contains-append_cases part.files h.files f k) [ inl was ↦ part.told f was | inr new ↦ h.told.0 f new ];
+  reported = λ f k. elim (Contains-append_cases part.files h.files f k) [ inl was ↦ part.reported f was | inr new ↦ h.reported.0 f new ];
   all = λ p under. at p (Contains-unmap (child w.root) w.files p (found_if_reached t w walk listed a_file p under));
 }
   where
@@ -232,27 +232,27 @@ tree_index t w first whole start now pieces walk listed part h index = record {
           (g.origin, Contains-append_right part.files h.files g.origin g.among, sym o.is ∙ ap (child w.root) (sym g.is)))
     ]
 
--- memory wants behind a read
-pub read_lost : (o : Option Told) (root name : Path) (weak : List Path) (before now : Calls) (p : FileBytes) → IfSome o (ReadsNext {T = FileBytes} root name weak before now (Ok p)) → IfSome o (ReadsNext {T = FileBytes} root name weak before now (Err Memory))
+-- memory wants after a read
+pub read_lost : (o : Option Contents) (root name : Path) (weak : List Path) (before now : Calls) (p : FileBytes) → IfSome o (ReadsNext {T = FileBytes} root name weak before now (Ok p)) → IfSome o (ReadsNext {T = FileBytes} root name weak before now (Err Memory))
 read_lost None root name weak before now p h = tt
 read_lost (Some t) root name weak before now p h = inr h
 
 -- over a tree that tells the same
-pub moved_read : (o q : Option Told) (w : Walk) (covered : List Path) (at : ℕ) (weak vague : List Path) (before now : Calls) (old : List File → Type 0) (new : Held → List File → Type 0) (r : Result Held WalkAnswer) → o ≡ q → weak ≡ vague
+pub moved_read : (o q : Option Contents) (w : Walk) (covered : List Path) (at : ℕ) (weak vague : List Path) (before now : Calls) (old : List File → Type 0) (new : Held → List File → Type 0) (r : Result Held WalkAnswer) → o ≡ q → weak ≡ vague
     → ReadsAt o w covered at weak before now old new r → ReadsAt q w covered at vague before now old new r
-moved_read o q w covered at weak vague before now old new r e f h = subst (λ (p : Option Told). ReadsAt p w covered at vague before now old new r) e (subst (λ (v : List Path). ReadsAt o w covered at v before now old new r) f h)
+moved_read o q w covered at weak vague before now old new r e f h = subst (λ (p : Option Contents). ReadsAt p w covered at vague before now old new r) e (subst (λ (v : List Path). ReadsAt o w covered at v before now old new r) f h)
 
 -- a walk that stops while it reads
-pub read_stopped : (o : Option Told) (w : Walk) (covered : List Path) (at : ℕ) (weak : List Path) (start before now : Calls) (old : List File → Type 0) (new : Held → List File → Type 0) (answer : WalkAnswer) → IfSome o (IsWalkOf w) → HasRead o w covered start before at old
+pub read_stopped : (o : Option Contents) (w : Walk) (covered : List Path) (at : ℕ) (weak : List Path) (start before now : Calls) (old : List File → Type 0) (new : Held → List File → Type 0) (answer : WalkAnswer) → IfSome o (IsWalkOf w) → HasRead o w covered start before at old
     → ReadsAt o w covered at weak before now old new (Err answer) → IfSome o (λ t. StopsReading w weak answer t × ReadsSome w covered start now answer)
 read_stopped o w covered at weak start before now old new answer walk h k = both o walk (k start h)
   where
-    both : (q : Option Told) → IfSome q (IsWalkOf w) → IfSome q (λ t. IsWalkOf w t → StopsReading w weak answer t × ReadsSome w covered start now answer) → IfSome q (λ t. StopsReading w weak answer t × ReadsSome w covered start now answer)
+    both : (q : Option Contents) → IfSome q (IsWalkOf w) → IfSome q (λ t. IsWalkOf w t → StopsReading w weak answer t × ReadsSome w covered start now answer) → IfSome q (λ t. StopsReading w weak answer t × ReadsSome w covered start now answer)
     both None a b = tt
     both (Some t) a b = b a
 
 -- what the end of the reading tells
-pub rest_stops : (o : Option Told) (w : Walk) (covered weak : List Path) (before now : Calls) (answer : WalkAnswer) → IfSome o (λ t. StopsReading w weak answer t × ReadsSome w covered before now answer) → IfSome o (ReadsRest w covered weak before now answer)
+pub rest_stops : (o : Option Contents) (w : Walk) (covered weak : List Path) (before now : Calls) (answer : WalkAnswer) → IfSome o (λ t. StopsReading w weak answer t × ReadsSome w covered before now answer) → IfSome o (ReadsRest w covered weak before now answer)
 rest_stops None w covered weak before now answer h = tt
 rest_stops (Some t) w covered weak before now (Done piece) h = absurd h.0
 rest_stops (Some t) w covered weak before now (Stopped many) h = absurd h.0
@@ -260,19 +260,19 @@ rest_stops (Some t) w covered weak before now (ReadFault path) h = h
 rest_stops (Some t) w covered weak before now (TooMany many) h = absurd h.0
 rest_stops (Some t) w covered weak before now Memory h = h.1
 
-all_reads : (t : Told) (w : Walk) (covered : List Path) (before now : Calls) (Kept : List File → Type 0) (answer : WalkAnswer) → failed_by answer ≡ [] → HasRead (Some t) w covered before now (length w.files) Kept → ReadsSome w covered before now answer
+all_reads : (t : Contents) (w : Walk) (covered : List Path) (before now : Calls) (Kept : List File → Type 0) (answer : WalkAnswer) → failed_by answer ≡ [] → HasRead (Some t) w covered before now (length w.files) Kept → ReadsSome w covered before now answer
 all_reads t w covered before now Kept answer none h = record {
   names = paths_of h.files;
   once = h.once;
   fresh = λ p k. (h.early p k).1;
   found = λ p k. Contains-take (length w.files) w.files p (h.early p k).0;
   all = λ done p k. h.all p (subst (λ (ps : List Path). Contains ps p) (sym (take_all (length w.files) w.files (omega arith))) k);
-  listed = ap (λ (c : Calls). c.listed) h.told.1;
-  read = ap (λ (c : Calls). c.files_read) h.told.1;
-  failed = ap (λ (c : Calls). c.failed) h.told.1 ∙ sym (ap (λ l. before.failed ++ l) none ∙ append-nil before.failed);
+  listed = ap (λ (c : Calls). c.listed) h.reported.1;
+  read = ap (λ (c : Calls). c.files_read) h.reported.1;
+  failed = ap (λ (c : Calls). c.failed) h.reported.1 ∙ sym (ap (λ l. before.failed ++ l) none ∙ append-nil before.failed);
 }
 
-pub rest_done : (o : Option Told) (w : Walk) (first whole : Index) (weak : List Path) (before now : Calls) (pieces : List Index) → IfSome o (IsWalkOf w) → IsListedWhole w → IsPartOf o w first → HasRead o w first.paths before now (length w.files) (IsPileOf pieces)
+pub rest_done : (o : Option Contents) (w : Walk) (first whole : Index) (weak : List Path) (before now : Calls) (pieces : List Index) → IfSome o (IsWalkOf w) → IsListedWhole w → IsPartOf o w first → HasRead o w first.paths before now (length w.files) (IsPileOf pieces)
     → ((fs gs : List File) → IsIndexOf fs first → IsPileOf pieces gs → IsIndexOf (fs ++ gs) whole) → IfSome o (ReadsRest w first.paths weak before now (Done whole))
 rest_done None w first whole weak before now pieces walk listed part h index = tt
 rest_done (Some t) w first whole weak before now pieces walk listed part h index = (
@@ -280,7 +280,7 @@ rest_done (Some t) w first whole weak before now pieces walk listed part h index
   all_reads t w first.paths before now (IsPileOf pieces) (Done whole) refl h,
 )
 
-pub rest_lost : (o : Option Told) (w : Walk) (covered weak : List Path) (before now : Calls) (pieces : List Index) → HasRead o w covered before now (length w.files) (IsPileOf pieces) → IfSome o (ReadsRest w covered weak before now Memory)
+pub rest_lost : (o : Option Contents) (w : Walk) (covered weak : List Path) (before now : Calls) (pieces : List Index) → HasRead o w covered before now (length w.files) (IsPileOf pieces) → IfSome o (ReadsRest w covered weak before now Memory)
 rest_lost None w covered weak before now pieces h = tt
 rest_lost (Some t) w covered weak before now pieces h = all_reads t w covered before now (IsPileOf pieces) Memory refl h
 
@@ -311,10 +311,10 @@ apart_batch pieces held next files k once index apart = AreApart-push pieces nex
     Distinct-across (paths_of k.done) (paths_of k.waiting) meet.0 (subst Distinct split once) (pile_paths pieces k.done a meet.0 k.pile m meet.1) (((index k.waiting k.batch).paths meet.0).0 meet.2))
 
 -- the files read are kept in another way
-pub HasRead-kept : (o : Option Told) (w : Walk) (covered : List Path) (before now : Calls) (at : ℕ) (Kept More : List File → Type 0) → ((fs : List File) → Kept fs → More fs) → HasRead o w covered before now at Kept → HasRead o w covered before now at More
-HasRead-kept o w covered before now at Kept More keeps h = record { files = h.files; kept = keeps h.files h.kept; once = h.once; early = h.early; all = h.all; told = h.told }
+pub HasRead-kept : (o : Option Contents) (w : Walk) (covered : List Path) (before now : Calls) (at : ℕ) (Kept More : List File → Type 0) → ((fs : List File) → Kept fs → More fs) → HasRead o w covered before now at Kept → HasRead o w covered before now at More
+HasRead-kept o w covered before now at Kept More keeps h = record { files = h.files; kept = keeps h.files h.kept; once = h.once; early = h.early; all = h.all; reported = h.reported }
 
 -- all is read, and memory wants
-pub reads_lost : (o : Option Told) (w : Walk) (covered weak : List Path) (before now : Calls) (at : ℕ) (Kept : List File → Type 0) → at ≡ length w.files → HasRead o w covered before now at Kept → IfSome o (λ t. StopsReading w weak Memory t × ReadsSome w covered before now Memory)
+pub reads_lost : (o : Option Contents) (w : Walk) (covered weak : List Path) (before now : Calls) (at : ℕ) (Kept : List File → Type 0) → at ≡ length w.files → HasRead o w covered before now at Kept → IfSome o (λ t. StopsReading w weak Memory t × ReadsSome w covered before now Memory)
 reads_lost None w covered weak before now at Kept end h = tt
 reads_lost (Some t) w covered weak before now at Kept end h = (tt, all_reads t w covered before now Kept Memory refl (subst (λ (k : ℕ). HasRead (Some t) w covered before now k Kept) end h))

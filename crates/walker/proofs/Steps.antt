@@ -4,11 +4,11 @@ use Rattle.std.specs.Prelude.{Option, Some, None, IfSome, Result, Ok, Err, OnOk,
 use Rattle.std.proofs.lemmas.List.{append_assoc, append-nil, get_or_default, take_more, take-append-le, length-map, length-take}
 use Rattle.std.proofs.lemmas.List.Elements.{Contains-push, Contains-push_cases, Contains-append_left}
 use Rattle.std.proofs.lemmas.List.Quantifiers.{all_pairs_push}
-use Rattle.firefly_outside.specs.Trees.{Path, Told, Calls, child, IsFault}
+use Rattle.firefly_outside.specs.Trees.{Path, Contents, Calls, child, IsFault}
 use Rattle.firefly_outside.specs.Under.{IsThere, IsUnder, AreMany}
 use Rattle.firefly_outside.specs.declared.tree.Kind.TheVariants.{File, Dir}
 use Rattle.walker.specs.Walk.{Walk, dirs_of, IsListed, IsUnlisted, IsSound, IsWalkOf, marked}
-use Rattle.walker.specs.Listings.{Notes, IsToldBy, ListsDir, with_listed}
+use Rattle.walker.specs.Listings.{Notes, IsReportedBy, ListsDir, with_listed}
 use Rattle.walker.specs.Closing.{CallsOnce, IsDone, failed_by, IsNumbered, HasRisen}
 use Rattle.walker.specs.Progress.{IsWithinLimits, IsPassed, ListsMore, KeptLimits, StopsListing, ListsOne, ListsAt, ListsRest, IsListedBelow, IsListedWhole, Grows, StepStays}
 use Rattle.firefly_outside.specs.declared.tree.TreeError.TheVariants as TreeError
@@ -50,7 +50,7 @@ noted_now : (old new : Walk) (dir : Path) (l : Listing) → Notes old new dir l 
 noted_now old new dir l n off = subst (λ (ds : List (Path × Bool)). Contains ds (dir, true)) (sym n.dirs) (listed_now old dir l.dirs.items [] off)
 
 -- what was listed since the start is under the root
-pub listed_under : (t : Told) (first w : Walk) (start before : Calls) → IsWalkOf w t → first.root ≡ w.root → (m : ListsMore first w start before) → (p : Path) → Contains m.dirs p → IsUnder t first.root Dir p
+pub listed_under : (t : Contents) (first w : Walk) (start before : Calls) → IsWalkOf w t → first.root ≡ w.root → (m : ListsMore first w start before) → (p : Path) → Contains m.dirs p → IsUnder t first.root Dir p
 listed_under t first w start before walk root m p h = subst (λ (r : Path). IsUnder t r Dir p) (sym root) (dir_reached t w walk p (found_listed w p (m.marks p h)))
 
 -- one more directory among those listed since the start
@@ -85,7 +85,7 @@ module _ (first old : Walk) (start before : Calls) (dir : Path) (sound : IsSound
   }
 
   -- memory wants after a listing
-  pub CallsOnce-listed : (t : Told) (now : Calls) (covered : List Path) → IsWalkOf old t → first.root ≡ old.root → now ≡ with_listed before dir → CallsOnce t first covered start now Memory
+  pub CallsOnce-listed : (t : Contents) (now : Calls) (covered : List Path) → IsWalkOf old t → first.root ≡ old.root → now ≡ with_listed before dir → CallsOnce t first covered start now Memory
   CallsOnce-listed t now covered walk root is = record {
     dirs = m.dirs ++ dir ∷ [];
     listed = ap (λ (c : Calls). c.listed) is ∙ ap (λ ds. ds ++ dir ∷ []) m.listed ∙ append_assoc start.listed m.dirs (dir ∷ []);
@@ -106,7 +106,7 @@ module _ (first old : Walk) (start before : Calls) (dir : Path) (sound : IsSound
   }
 
 -- the calls since the start where the answer adds these failed ones
-pub CallsOnce-listing : (t : Told) (first w : Walk) (start before now : Calls) (covered : List Path) (answer : WalkAnswer) → IsWalkOf w t → first.root ≡ w.root → ¬ IsDone answer → ListsMore first w start before
+pub CallsOnce-listing : (t : Contents) (first w : Walk) (start before now : Calls) (covered : List Path) (answer : WalkAnswer) → IsWalkOf w t → first.root ≡ w.root → ¬ IsDone answer → ListsMore first w start before
     → now ≡ record before { failed = before.failed ++ failed_by answer } → CallsOnce t first covered start now answer
 CallsOnce-listing t first w start before now covered answer walk root undone m is = record {
   dirs = m.dirs;
@@ -128,38 +128,38 @@ same_calls : (c : Calls) → c ≡ record c { failed = c.failed ++ [] }
 same_calls c = ap (λ ps. record c { failed = ps }) (sym (append-nil c.failed))
 
 -- a directory that can't be listed
-pub Stops-fault : (old : Walk) (dir : Path) (weak : List Path) (before now : Calls) (t : Told) → IsUnlisted old dir → IsFault weak dir (IsThere t Dir dir) before now → StopsListing old weak before now (ReadFault dir) t
+pub Stops-fault : (old : Walk) (dir : Path) (weak : List Path) (before now : Calls) (t : Contents) → IsUnlisted old dir → IsFault weak dir (IsThere t Dir dir) before now → StopsListing old weak before now (ReadFault dir) t
 Stops-fault old dir weak before now t off fault sound walk first start root m stop = (
   record { kind = Dir; under = subst (λ r. IsUnder t r Dir dir) (sym root) (dir_reached t old walk dir (found_unlisted old dir off)); may = fault.may },
   λ covered. CallsOnce-listing t first old start before now covered (ReadFault dir) walk root (λ done. done) m fault.noted,
   λ limits. record {
     walk = old;
     calls = before;
-    reached = record { sound = sound; told = walk; more = m };
+    reached = record { sound = sound; reported = walk; more = m };
     limits = limits;
     listed = ap (λ (c : Calls). c.listed) fault.noted;
   },
 )
 
 -- memory wants
-pub Stops-memory : (old : Walk) (dir : Path) (weak : List Path) (before now : Calls) (t : Told) → IsUnlisted old dir → (now ≡ before) ⊎ (now ≡ with_listed before dir) → StopsListing old weak before now Memory t
+pub Stops-memory : (old : Walk) (dir : Path) (weak : List Path) (before now : Calls) (t : Contents) → IsUnlisted old dir → (now ≡ before) ⊎ (now ≡ with_listed before dir) → StopsListing old weak before now Memory t
 Stops-memory old dir weak before now t off (inl same) sound walk first start root m stop = (tt, λ covered. CallsOnce-listing t first old start before now covered Memory walk root (λ done. done) m (same ∙ same_calls before), λ limits. tt)
 Stops-memory old dir weak before now t off (inr more) sound walk first start root m stop = (tt, λ covered. CallsOnce-listed first old start before dir sound off m t now covered walk root more, λ limits. tt)
 
 -- a limit is passed
-pub Stops-passed : (first w : Walk) (stop : Option ℕ) (weak : List Path) (start now : Calls) (t : Told) (answer : WalkAnswer) → IsSound w → IsWalkOf w t → first.root ≡ w.root → ListsMore first w start now
+pub Stops-passed : (first w : Walk) (stop : Option ℕ) (weak : List Path) (start now : Calls) (t : Contents) (answer : WalkAnswer) → IsSound w → IsWalkOf w t → first.root ≡ w.root → ListsMore first w start now
     → (now.listed ≡ start.listed) ⊎ KeptLimits first stop start now t → IsPassed w stop answer → ListsRest {T = Unit {0}} first w stop weak start now (Err answer) t
 Stops-passed first w stop weak start now t (Done piece) sound walk root m earlier p = absurd p
 Stops-passed first w stop weak start now t (Stopped many) sound walk root m earlier p = (
   subst (λ r. AreMany t r File many) (sym root) (many_files t w many sound walk (omega (arith, p.1.2, p.1.3))),
   λ covered. CallsOnce-listing t first w start now now covered (Stopped many) walk root (λ done. done) m (same_calls now),
-  record { walk = w; reached = record { sound = sound; told = walk; more = m }; passed = p; earlier = earlier },
+  record { walk = w; reached = record { sound = sound; reported = walk; more = m }; passed = p; earlier = earlier },
 )
 Stops-passed first w stop weak start now t (ReadFault path) sound walk root m earlier p = absurd p
 Stops-passed first w stop weak start now t (TooMany many) sound walk root m earlier p = (
   subst (λ r. AreMany t r Dir many) (sym root) (many_dirs t w many sound walk (omega (arith, p.0, p.1))),
   λ covered. CallsOnce-listing t first w start now now covered (TooMany many) walk root (λ done. done) m (same_calls now),
-  record { walk = w; reached = record { sound = sound; told = walk; more = m }; passed = p; earlier = earlier },
+  record { walk = w; reached = record { sound = sound; reported = walk; more = m }; passed = p; earlier = earlier },
 )
 Stops-passed first w stop weak start now t Memory sound walk root m earlier p = absurd p
 
@@ -227,12 +227,12 @@ Grows-noted old new dir l n = record {
 }
 
 -- the same, where the tree may tell
-module _ (o : Option Told) (old new : Walk) (dir path : Path) (weak : List Path) (before now : Calls) (off : IsUnlisted old dir) (same : path ≡ dir) where
-  pub told_ok : (l : Listing) → IfSome o (ListsDir weak path before now (Ok l)) → Notes old new path l → ((t : Told) → IsWalkOf old t → IsToldBy t path l → IsWalkOf new t)
+module _ (o : Option Contents) (old new : Walk) (dir path : Path) (weak : List Path) (before now : Calls) (off : IsUnlisted old dir) (same : path ≡ dir) where
+  pub reported_ok : (l : Listing) → IfSome o (ListsDir weak path before now (Ok l)) → Notes old new path l → ((t : Contents) → IsWalkOf old t → IsReportedBy t path l → IsWalkOf new t)
       → IfSome o (ListsAt {T = Unit {0}} old new weak before now (Ok tt))
-  told_ok l h n keeps = at o h
+  reported_ok l h n keeps = at o h
     where
-      at : (q : Option Told) → IfSome q (ListsDir weak path before now (Ok l)) → IfSome q (ListsAt {T = Unit {0}} old new weak before now (Ok tt))
+      at : (q : Option Contents) → IfSome q (ListsDir weak path before now (Ok l)) → IfSome q (ListsAt {T = Unit {0}} old new weak before now (Ok tt))
       at None k = tt
       at (Some t) k = (
         λ walk. keeps t walk k.0,
@@ -240,35 +240,35 @@ module _ (o : Option Told) (old new : Walk) (dir path : Path) (weak : List Path)
         inr (path, ap (λ (c : Calls). c.listed) k.1),
       )
 
-  pub told_unnoted : (l : Listing) → IfSome o (ListsDir weak path before now (Ok l)) → IfSome o (ListsAt {T = Unit {0}} old new weak before now (Err Memory))
-  told_unnoted l h = at o h
+  pub reported_unnoted : (l : Listing) → IfSome o (ListsDir weak path before now (Ok l)) → IfSome o (ListsAt {T = Unit {0}} old new weak before now (Err Memory))
+  reported_unnoted l h = at o h
     where
-      at : (q : Option Told) → IfSome q (ListsDir weak path before now (Ok l)) → IfSome q (ListsAt {T = Unit {0}} old new weak before now (Err Memory))
+      at : (q : Option Contents) → IfSome q (ListsDir weak path before now (Ok l)) → IfSome q (ListsAt {T = Unit {0}} old new weak before now (Err Memory))
       at None k = tt
       at (Some t) k = Stops-memory old path weak before now t (subst (IsUnlisted old) (sym same) off) (inr k.1)
 
-  pub told_memory : IfSome o (ListsDir weak path before now (Err TreeError.Memory)) → IfSome o (ListsAt {T = Unit {0}} old new weak before now (Err Memory))
-  told_memory h = at o h
+  pub reported_memory : IfSome o (ListsDir weak path before now (Err TreeError.Memory)) → IfSome o (ListsAt {T = Unit {0}} old new weak before now (Err Memory))
+  reported_memory h = at o h
     where
-      at : (q : Option Told) → IfSome q (ListsDir weak path before now (Err TreeError.Memory)) → IfSome q (ListsAt {T = Unit {0}} old new weak before now (Err Memory))
+      at : (q : Option Contents) → IfSome q (ListsDir weak path before now (Err TreeError.Memory)) → IfSome q (ListsAt {T = Unit {0}} old new weak before now (Err Memory))
       at None k = tt
       at (Some t) k = Stops-memory old path weak before now t (subst (IsUnlisted old) (sym same) off) k
 
-  pub told_fault : IfSome o (ListsDir weak path before now (Err TreeError.Failed)) → IfSome o (ListsAt {T = Unit {0}} old new weak before now (Err (ReadFault dir)))
-  told_fault h = at o h
+  pub reported_fault : IfSome o (ListsDir weak path before now (Err TreeError.Failed)) → IfSome o (ListsAt {T = Unit {0}} old new weak before now (Err (ReadFault dir)))
+  reported_fault h = at o h
     where
-      at : (q : Option Told) → IfSome q (ListsDir weak path before now (Err TreeError.Failed)) → IfSome q (ListsAt {T = Unit {0}} old new weak before now (Err (ReadFault dir)))
+      at : (q : Option Contents) → IfSome q (ListsDir weak path before now (Err TreeError.Failed)) → IfSome q (ListsAt {T = Unit {0}} old new weak before now (Err (ReadFault dir)))
       at None k = tt
       at (Some t) k = Stops-fault old dir weak before now t off (subst (λ (p : Path). IsFault weak p (IsThere t Dir p) before now) same k)
 
 -- the same, where nothing is done
-pub told_same : (o : Option Told) (w : Walk) (weak : List Path) (calls : Calls) → IfSome o (ListsAt {T = Unit {0}} w w weak calls calls (Ok tt))
-told_same None w weak calls = tt
-told_same (Some t) w weak calls = (λ walk. walk, λ sound first start m. m, inl (refl, refl))
+pub reported_same : (o : Option Contents) (w : Walk) (weak : List Path) (calls : Calls) → IfSome o (ListsAt {T = Unit {0}} w w weak calls calls (Ok tt))
+reported_same None w weak calls = tt
+reported_same (Some t) w weak calls = (λ walk. walk, λ sound first start m. m, inl (refl, refl))
 
-pub told_unread : (o : Option Told) (w : Walk) (dir : Path) (weak : List Path) (calls : Calls) → IsUnlisted w dir → IfSome o (ListsAt {T = Unit {0}} w w weak calls calls (Err Memory))
-told_unread None w dir weak calls off = tt
-told_unread (Some t) w dir weak calls off = Stops-memory w dir weak calls calls t off (inl refl)
+pub reported_unread : (o : Option Contents) (w : Walk) (dir : Path) (weak : List Path) (calls : Calls) → IsUnlisted w dir → IfSome o (ListsAt {T = Unit {0}} w w weak calls calls (Err Memory))
+reported_unread None w dir weak calls off = tt
+reported_unread (Some t) w dir weak calls off = Stops-memory w dir weak calls calls t off (inl refl)
 
 pub unlisted_from : (w : Walk) (at : ℕ) (dir : Path) → slice_get w.dirs at ≡ Some (dir, false) → IsUnlisted w dir
 unlisted_from w at dir here = let s = some_at w.dirs at (dir, false) here in (at, s.0, s.1)
@@ -280,14 +280,14 @@ pub Grows-trans : (a b c : Walk) → Grows a b → Grows b c → Grows a c
 Grows-trans a b c f g = record { root = g.root ∙ f.root; files = λ p h. g.files p (f.files p h) }
 
 -- what a walk has told since its start, where the tree tells
-abbrev pub IsGoing : Walk → Walk → Calls → Calls → Told → Type 0
+abbrev pub IsGoing : Walk → Walk → Calls → Calls → Contents → Type 0
 IsGoing first w start now t = IsWalkOf w t × ListsMore first w start now
 
-pub going_next : (o : Option Told) (first old new : Walk) (weak : List Path) (start before now : Calls) → IsSound old → IfSome o (IsGoing first old start before) → IfSome o (ListsAt {T = Unit {0}} old new weak before now (Ok tt)) → IfSome o (IsGoing first new start now)
+pub going_next : (o : Option Contents) (first old new : Walk) (weak : List Path) (start before now : Calls) → IsSound old → IfSome o (IsGoing first old start before) → IfSome o (ListsAt {T = Unit {0}} old new weak before now (Ok tt)) → IfSome o (IsGoing first new start now)
 going_next None first old new weak start before now sound g h = tt
 going_next (Some t) first old new weak start before now sound g h = (h.0 g.0, h.1 sound first start g.1)
 
-pub rest_stopped : (o : Option Told) (first old new : Walk) (stop : Option ℕ) (weak : List Path) (start before now : Calls) (answer : WalkAnswer) → IsSound old → IsWithinLimits old stop → Grows first old → IfSome o (IsGoing first old start before)
+pub rest_stopped : (o : Option Contents) (first old new : Walk) (stop : Option ℕ) (weak : List Path) (start before now : Calls) (answer : WalkAnswer) → IsSound old → IsWithinLimits old stop → Grows first old → IfSome o (IsGoing first old start before)
     → IfSome o (ListsAt {T = Unit {0}} old new weak before now (Err answer)) → IfSome o (ListsRest {T = Unit {0}} first new stop weak start now (Err answer))
 rest_stopped None first old new stop weak start before now answer sound limits grows g h = tt
 rest_stopped (Some t) first old new stop weak start before now answer sound limits grows g h =
@@ -303,23 +303,23 @@ within_passes_none w stop (TooMany many) limits p = absurd (omega (arith, limits
 within_passes_none w stop Memory limits p = p
 
 -- what a walk has told that passed no limit before its last listing
-abbrev pub IsPassing : Walk → Walk → Option ℕ → Calls → Calls → Told → Type 0
+abbrev pub IsPassing : Walk → Walk → Option ℕ → Calls → Calls → Contents → Type 0
 IsPassing first w stop start now t = IsGoing first w start now t × ((now.listed ≡ start.listed) ⊎ KeptLimits first stop start now t)
 
-pub passing_start : (o : Option Told) (w : Walk) (stop : Option ℕ) (calls : Calls) → IfSome o (IsWalkOf w) → IfSome o (IsPassing w w stop calls calls)
+pub passing_start : (o : Option Contents) (w : Walk) (stop : Option ℕ) (calls : Calls) → IfSome o (IsWalkOf w) → IfSome o (IsPassing w w stop calls calls)
 passing_start None w stop calls h = tt
 passing_start (Some t) w stop calls h = ((h, ListsMore-refl w calls), inl refl)
 
-pub passing_next : (o : Option Told) (first old new : Walk) (stop : Option ℕ) (weak : List Path) (start before now : Calls) (answer : WalkAnswer) → IsSound old → IsWithinLimits old stop → IsPassed new stop answer
+pub passing_next : (o : Option Contents) (first old new : Walk) (stop : Option ℕ) (weak : List Path) (start before now : Calls) (answer : WalkAnswer) → IsSound old → IsWithinLimits old stop → IsPassed new stop answer
     → IfSome o (IsGoing first old start before) → IfSome o (ListsAt {T = Unit {0}} old new weak before now (Ok tt)) → IfSome o (IsPassing first new stop start now)
 passing_next None first old new stop weak start before now answer sound limits p g h = tt
 passing_next (Some t) first old new stop weak start before now answer sound limits p g h = ((h.0 g.0, h.1 sound first start g.1), kept h.2)
   where
     kept : ListsOne old new before now → (now.listed ≡ start.listed) ⊎ KeptLimits first stop start now t
     kept (inl same) = absurd (within_passes_none old stop answer limits (subst (λ (v : Walk). IsPassed v stop answer) same.0 p))
-    kept (inr one) = inr (record { walk = old; calls = before; reached = record { sound = sound; told = g.0; more = g.1 }; limits = limits; last = one.0; listed = one.1 })
+    kept (inr one) = inr (record { walk = old; calls = before; reached = record { sound = sound; reported = g.0; more = g.1 }; limits = limits; last = one.0; listed = one.1 })
 
-pub rest_passed : (o : Option Told) (first w : Walk) (stop : Option ℕ) (weak : List Path) (start now : Calls) (answer : WalkAnswer) → IsSound w → Grows first w → IfSome o (IsPassing first w stop start now)
+pub rest_passed : (o : Option Contents) (first w : Walk) (stop : Option ℕ) (weak : List Path) (start now : Calls) (answer : WalkAnswer) → IsSound w → Grows first w → IfSome o (IsPassing first w stop start now)
     → IsPassed w stop answer → IfSome o (ListsRest {T = Unit {0}} first w stop weak start now (Err answer))
 rest_passed None first w stop weak start now answer sound grows g p = tt
 rest_passed (Some t) first w stop weak start now answer sound grows g p = Stops-passed first w stop weak start now t answer sound g.0.0 (sym grows.root) g.0.1 g.1 p
@@ -340,13 +340,13 @@ passed_counts w stop (TooMany many) count p = refl
 passed_counts w stop Memory count p = absurd p
 
 -- an end after steps that left all as it was
-pub stays_then : {T U : Type 0} {tree mid told : Option Told} {weak between vague : List Path} {before middle now : ℕ} {answer : WalkAnswer} → mid ≡ tree → between ≡ weak → middle ≡ before
-    → StepStays {T = T} mid told between vague middle now (Err answer) → StepStays {T = U} tree told weak vague before now (Err answer)
+pub stays_then : {T U : Type 0} {tree mid reported : Option Contents} {weak between vague : List Path} {before middle now : ℕ} {answer : WalkAnswer} → mid ≡ tree → between ≡ weak → middle ≡ before
+    → StepStays {T = T} mid reported between vague middle now (Err answer) → StepStays {T = U} tree reported weak vague before now (Err answer)
 stays_then {now} {answer} tree weak count h = record { tree = h.tree ∙ tree; weak = h.weak ∙ weak; count = subst (λ (n : ℕ). HasRisen n now answer) count h.count }
 
 -- an end at a limit after steps that left all as it was
-pub stays_passed : {T : Type 0} {tree told : Option Told} {weak vague : List Path} {before now : ℕ} → told ≡ tree → vague ≡ weak → now ≡ before
-    → (w : Walk) (stop : Option ℕ) (answer : WalkAnswer) → IsPassed w stop answer → StepStays {T = T} tree told weak vague before now (Err answer)
+pub stays_passed : {T : Type 0} {tree reported : Option Contents} {weak vague : List Path} {before now : ℕ} → reported ≡ tree → vague ≡ weak → now ≡ before
+    → (w : Walk) (stop : Option ℕ) (answer : WalkAnswer) → IsPassed w stop answer → StepStays {T = T} tree reported weak vague before now (Err answer)
 stays_passed {before} tree weak count w stop answer passed = record { tree = tree; weak = weak; count = subst (λ (n : ℕ). HasRisen before n answer) (sym count) (passed_counts w stop answer before passed) }
 
 pub OnOk-map : {T E : Type 0} (r : Result T E) (P Q : Type 0) → (P → Q) → OnOk r P → OnOk r Q
@@ -358,6 +358,6 @@ IfOk-map (Ok v) P Q f h = f v h
 IfOk-map (Err e) P Q f h = tt
 
 -- a step over a tree that tells the same
-pub moved_step : (o q : Option Told) (old new : Walk) (weak vague : List Path) (before now : Calls) (r : Result (Unit {0}) WalkAnswer) → o ≡ q → weak ≡ vague
+pub moved_step : (o q : Option Contents) (old new : Walk) (weak vague : List Path) (before now : Calls) (r : Result (Unit {0}) WalkAnswer) → o ≡ q → weak ≡ vague
     → IfSome o (ListsAt {T = Unit {0}} old new weak before now r) → IfSome q (ListsAt {T = Unit {0}} old new vague before now r)
-moved_step o q old new weak vague before now r e f h = subst (λ (p : Option Told). IfSome p (ListsAt {T = Unit {0}} old new vague before now r)) e (subst (λ (w : List Path). IfSome o (ListsAt {T = Unit {0}} old new w before now r)) f h)
+moved_step o q old new weak vague before now r e f h = subst (λ (p : Option Contents). IfSome p (ListsAt {T = Unit {0}} old new vague before now r)) e (subst (λ (w : List Path). IfSome o (ListsAt {T = Unit {0}} old new w before now r)) f h)

@@ -1,7 +1,7 @@
 -- What the closing walk answers.
 use Rattle.std.specs.Prelude.{◌≡◌, ◌≢◌, ℕ, ◌+◌, ◌≤◌, List, [], ◌∷◌, ◌++◌, map, Option, Some, Contains, AllPairs, ◌⊎◌}
 use Rattle.firefly_outside.specs.Causes.{Rose}
-use Rattle.firefly_outside.specs.Trees.{Path, Told, Calls, child}
+use Rattle.firefly_outside.specs.Trees.{Path, Contents, Calls, child}
 use Rattle.firefly_outside.specs.Under.{IsUnder, IsThere, AreMany}
 use Rattle.firefly_outside.specs.declared.tree.Kind.{Kind}
 use Rattle.firefly_outside.specs.declared.tree.Kind.TheVariants.{File, Dir}
@@ -32,19 +32,19 @@ IsNumbered stop (TooMany many) = many ≡ most_dirs + 1
 IsNumbered stop Memory = Unit {0}
 
 -- all is indexed, and neither limit is passed
-pub record IsWhole (t : Told) (root : Path) (stop : Option ℕ) (piece : Index) : Type 0 where
+pub record IsWhole (t : Contents) (root : Path) (stop : Option ℕ) (piece : Index) : Type 0 where
   pub index : IsTreeIndex t root piece
   pub dirs : ¬ AreMany t root Dir (most_dirs + 1)
   pub files : (n : ℕ) → stop ≡ Some n → ¬ AreMany t root File (n + 1)
 
 -- a path under the root that may fail, or at which the tree hasn't what its entry says
-pub record IsFaultUnder (t : Told) (root : Path) (weak : List Path) (path : Path) : Type 0 where
+pub record IsFaultUnder (t : Contents) (root : Path) (weak : List Path) (path : Path) : Type 0 where
   pub kind : Kind
   pub under : IsUnder t root kind path
   pub may : Contains weak path ⊎ ¬ IsThere t kind path
 
 -- what the answers say of a tree that shows its contents
-abbrev pub Answers : Path → Option ℕ → List Path → WalkAnswer → Told → Type 0
+abbrev pub Answers : Path → Option ℕ → List Path → WalkAnswer → Contents → Type 0
 Answers root stop weak (Done piece) t = IsWhole t root stop piece
 Answers root stop weak (Stopped many) t = AreMany t root File many
 Answers root stop weak (ReadFault path) t = IsFaultUnder t root weak path
@@ -68,7 +68,7 @@ IsDone Memory = ⊥
 
 -- the calls of a walk: it lists directories under the root that weren't listed and reads files under it that aren't covered,
 -- each once, and where it is done it has listed and read them all
-pub record CallsOnce (t : Told) (w : Walk) (covered : List Path) (old new : Calls) (answer : WalkAnswer) : Type 0 where
+pub record CallsOnce (t : Contents) (w : Walk) (covered : List Path) (old new : Calls) (answer : WalkAnswer) : Type 0 where
   pub dirs : List Path
   pub listed : new.listed ≡ old.listed ++ dirs
   pub dirs_once : AllPairs (λ p q. p ≢ q) dirs

@@ -2,7 +2,7 @@
 use Rattle.std.specs.Prelude.{◌≡◌, ◌≢◌, false, List, [], ◌∷◌, ◌++◌, map, Contains, AllPairs, ◌↔◌, ◌⊎◌, Some, Result, Ok, Err, IsSorted}
 use Rattle.std.specs.Cmp.Lexicographic.{slice_cmp}
 use Rattle.std.specs.Ordering.{nat_cmp}
-use Rattle.firefly_outside.specs.Trees.{Path, Told, Directory, Calls, child, IsChild, IsFault}
+use Rattle.firefly_outside.specs.Trees.{Path, Contents, Directory, Calls, child, IsChild, IsFault}
 use Rattle.firefly_outside.specs.declared.tree.Entry.{Entry}
 use Rattle.firefly_outside.specs.declared.tree.Kind.TheVariants.{File, Dir}
 use Rattle.firefly_outside.specs.declared.tree.TreeError.{TreeError}
@@ -18,7 +18,7 @@ pub record IsListingOf (dir : Path) (l : Listing) : Type 0 where
   pub distinct : AllPairs (λ p q. p ≢ q) (l.dirs.items ++ l.files.items)
 
 -- the listing has the children that the tree has in that directory
-pub record IsToldBy (t : Told) (dir : Path) (l : Listing) : Type 0 where
+pub record IsReportedBy (t : Contents) (dir : Path) (l : Listing) : Type 0 where
   pub entries : List Entry
   pub here : t dir ≡ Some (Directory entries)
   pub dirs : (p : Path) → Contains l.dirs.items p ↔ IsNamed dir entries Dir p
@@ -29,8 +29,8 @@ abbrev pub with_listed : Calls → Path → Calls
 with_listed c dir = record c { listed = c.listed ++ dir ∷ [] }
 
 -- what listing a directory once answers
-abbrev pub ListsDir : List Path → Path → Calls → Calls → Result Listing TreeError → Told → Type 0
-ListsDir weak dir old new (Ok l) t = IsToldBy t dir l × (new ≡ with_listed old dir)
+abbrev pub ListsDir : List Path → Path → Calls → Calls → Result Listing TreeError → Contents → Type 0
+ListsDir weak dir old new (Ok l) t = IsReportedBy t dir l × (new ≡ with_listed old dir)
 ListsDir weak dir old new (Err Memory) t = (new ≡ old) ⊎ (new ≡ with_listed old dir)
 ListsDir weak dir old new (Err Failed) t = IsFault weak dir ((es : List Entry) × (t dir ≡ Some (Directory es))) old new
 

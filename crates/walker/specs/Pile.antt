@@ -1,6 +1,6 @@
 -- Pieces that lie on a pile until they are merged, and the files read for them.
 use Rattle.std.specs.Prelude.{◌≡◌, ◌≢◌, ℕ, ◌+◌, List, [], ◌∷◌, ◌++◌, length, map, take, Option, IfSome, Contains, AllPairs, ◌⊎◌, Result, Ok, Err}
-use Rattle.firefly_outside.specs.Trees.{Path, Told, Calls, child, IsFault}
+use Rattle.firefly_outside.specs.Trees.{Path, Contents, Calls, child, IsFault}
 use Rattle.firefly_outside.specs.Under.{IsThere}
 use Rattle.firefly_outside.specs.declared.tree.Kind.TheVariants.{File as a_file}
 use Rattle.word_index.specs.Index.{File, Index, Meet, IsIndexOf}
@@ -45,7 +45,7 @@ abbrev pub AreDistinct : List File → Type 0
 AreDistinct files = AllPairs (λ p q. p ≢ q) (map (λ f. f.path) files)
 
 -- what reading one more file reports
-abbrev pub ReadsNext : {T : Type 0} → Path → Path → List Path → Calls → Calls → Result T WalkAnswer → Told → Type 0
+abbrev pub ReadsNext : {T : Type 0} → Path → Path → List Path → Calls → Calls → Result T WalkAnswer → Contents → Type 0
 ReadsNext root name weak before now (Ok piece) t = now ≡ with_read before (child root name)
 ReadsNext root name weak before now (Err (Done piece)) t = ⊥
 ReadsNext root name weak before now (Err (Stopped many)) t = ⊥
@@ -59,14 +59,14 @@ abbrev pub with_reads : Calls → Path → List Path → Calls
 with_reads c root names = record c { files_read = c.files_read ++ map (child root) names }
 
 -- the files found before this place that aren't covered were read, each once, and are kept so
-pub record HasRead (tree : Option Told) (w : Walk) (covered : List Path) (before now : Calls) (at : ℕ) (Kept : List File → Type 0) : Type 0
+pub record HasRead (tree : Option Contents) (w : Walk) (covered : List Path) (before now : Calls) (at : ℕ) (Kept : List File → Type 0) : Type 0
   where
     pub files : List File
     pub kept : Kept files
     pub once : AreDistinct files
     pub early : (p : Path) → Contains (map (λ f. f.path) files) p → Contains (take at w.files) p × (¬ Contains covered p)
     pub all : (p : Path) → Contains (take at w.files) p → Contains covered p ⊎ Contains (map (λ f. f.path) files) p
-    pub told : IfSome tree (λ t. ((f : File) → Contains files f → IsFileAt t w.root f)
+    pub reported : IfSome tree (λ t. ((f : File) → Contains files f → IsFileAt t w.root f)
         × (now ≡ with_reads before w.root (map (λ f. f.path) files)))
 
 -- the calls of a walk that stops while it reads
@@ -81,7 +81,7 @@ pub record ReadsSome (w : Walk) (covered : List Path) (before now : Calls) (answ
   pub failed : now.failed ≡ before.failed ++ failed_by answer
 
 -- what a walk that stops while it reads reports of the tree
-abbrev pub StopsReading : Walk → List Path → WalkAnswer → Told → Type 0
+abbrev pub StopsReading : Walk → List Path → WalkAnswer → Contents → Type 0
 StopsReading w weak (Done piece) t = ⊥
 StopsReading w weak (Stopped many) t = ⊥
 StopsReading w weak (ReadFault path) t = IsFaultUnder t w.root weak path
@@ -89,13 +89,13 @@ StopsReading w weak (TooMany many) t = ⊥
 StopsReading w weak Memory t = Unit {0}
 
 -- what reading the files answers
-abbrev pub IsRead : {T : Type 0} → Option Told → Walk → List Path → List Path → Calls → Calls → List Index → Result T WalkAnswer → Type 0
+abbrev pub IsRead : {T : Type 0} → Option Contents → Walk → List Path → List Path → Calls → Calls → List Index → Result T WalkAnswer → Type 0
 IsRead tree w covered weak before now pieces (Ok v) = HasRead tree w covered before now (length w.files) (IsPileOf pieces)
 IsRead tree w covered weak before now pieces (Err answer) =
     IfSome tree (λ t. StopsReading w weak answer t × ReadsSome w covered before now answer)
 
 -- what reading the rest reports
-abbrev pub ReadsRest : Walk → List Path → List Path → Calls → Calls → WalkAnswer → Told → Type 0
+abbrev pub ReadsRest : Walk → List Path → List Path → Calls → Calls → WalkAnswer → Contents → Type 0
 ReadsRest w covered weak before now (Done piece) t = IsTreeIndex t w.root piece × ReadsSome w covered before now (Done piece)
 ReadsRest w covered weak before now (Stopped many) t = ⊥
 ReadsRest w covered weak before now (ReadFault path) t = IsFaultUnder t w.root weak path × ReadsSome w covered before now (ReadFault path)
@@ -103,7 +103,7 @@ ReadsRest w covered weak before now (TooMany many) t = ⊥
 ReadsRest w covered weak before now Memory t = ReadsSome w covered before now Memory
 
 -- what the step at one place answers
-abbrev pub ReadsAt : Option Told → Walk → List Path → ℕ → List Path → Calls → Calls → (List File → Type 0) → (Held → List File → Type 0)
+abbrev pub ReadsAt : Option Contents → Walk → List Path → ℕ → List Path → Calls → Calls → (List File → Type 0) → (Held → List File → Type 0)
     → Result Held WalkAnswer → Type 0
 ReadsAt tree w covered at weak before now old new (Ok held) = (start : Calls) → HasRead tree w covered start before at old
     → HasRead tree w covered start now (at + 1) (new held)

@@ -6,7 +6,7 @@ use Rattle.std.specs.String.{string_bytes}
 use Rattle.std.specs.declared.string.String.{String}
 use Rattle.indexmap.specs.IndexMap.{IndexMap}
 use Rattle.walker.specs.Found.{names_in}
-use Rattle.firefly_outside.specs.Trees.{Path, Told, Directory, child, IsChild}
+use Rattle.firefly_outside.specs.Trees.{Path, Contents, Directory, child, IsChild}
 use Rattle.firefly_outside.specs.declared.tree.Entry.{Entry}
 use Rattle.firefly_outside.specs.declared.tree.Kind.{Kind}
 use Rattle.firefly_outside.specs.declared.tree.Kind.TheVariants.{File, Dir}
@@ -76,7 +76,7 @@ pub record IsNamed (dir : Path) (es : List Entry) (kind : Kind) (path : Path) : 
   pub is : path ≡ child dir entry.name
 
 -- the tree's entry of this kind in a directory that was listed
-pub record IsSeen (t : Told) (w : Walk) (kind : Kind) (path : Path) : Type 0 where
+pub record IsSeen (t : Contents) (w : Walk) (kind : Kind) (path : Path) : Type 0 where
   pub dir : Path
   pub entries : List Entry
   pub listed : IsListed w dir
@@ -84,7 +84,7 @@ pub record IsSeen (t : Told) (w : Walk) (kind : Kind) (path : Path) : Type 0 whe
   pub named : IsNamed dir entries kind path
 
 -- the listings of the walk are those of the tree
-pub record IsWalkOf (w : Walk) (t : Told) : Type 0 where
+pub record IsWalkOf (w : Walk) (t : Contents) : Type 0 where
   pub listed : (dir : Path) → IsListed w dir → (es : List Entry) × (t dir ≡ Some (Directory es))
   pub dirs : (p : Path) → Contains (dirs_of w) p ↔ ((p ≡ w.root) ⊎ IsSeen t w Dir p)
   pub files : (p : Path) → Contains (files_of w) p ↔ IsSeen t w File p

@@ -9,16 +9,16 @@
 #![tactic(auto)]
 
 mod answer;
-mod closing;
+mod close;
 mod found;
 mod listing;
-mod noting;
+mod note;
 mod paths;
-mod reading;
+mod read;
 mod walked;
 
 pub use answer::WalkAnswer;
-pub use closing::{MOST_DIRS, close_walk};
+pub use close::{MOST_DIRS, close_walk};
 pub use listing::{Listing, list_dir};
 pub use paths::below;
 pub use walked::Walked;

@@ -24,7 +24,7 @@ pub fn list_dir<S: Tree>(alloc: Global, tree: &mut S, dir: &str) -> Result<Listi
     ensures weak_stays { S.may_fail tree.new ≡ S.may_fail tree.old }
     ensures count { Counts (S.faults tree.old) (S.faults tree.new) result }
     ensures lawful { IfOk result (IsListingOf dir.now) }
-    ensures told { IfSome (S.tree tree.old) (ListsDir (S.may_fail tree.old) dir.now (S.calls tree.old) (S.calls tree.new) result) }
+    ensures reported { IfSome (S.tree tree.old) (ListsDir (S.may_fail tree.old) dir.now (S.calls tree.old) (S.calls tree.new) result) }
 {
     let entries = match tree.list(alloc, dir) {
         Ok(entries) => entries,

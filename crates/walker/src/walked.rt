@@ -1,12 +1,12 @@
 //! The directories and files that a walk has found.
 ghost use Rattle.std.specs.Prelude.{◌≡◌, ◌↔◌, ◌+◌, ◌≤◌, ℕ, List, length, map, IfOk, IfErr, OnOk, IfSome, IsTrue, Contains, MatchOption, slice_get, Some, ◌≢◌, ◌<◌, false};
-ghost use Rattle.firefly_outside.specs.Trees.{Told, Path};
+ghost use Rattle.firefly_outside.specs.Trees.{Contents, Path};
 ghost use Rattle.walker.specs.Walk.{new_walk, IsUnlisted, IsWalkOf, IsSound};
-ghost use Rattle.walker.specs.Listings.{IsListingOf, IsToldBy, Notes};
+ghost use Rattle.walker.specs.Listings.{IsListingOf, IsReportedBy, Notes};
 
 use crate::Listing;
 use crate::found::{Dirs, Files, first_dirs, has_file, has_unlisted, name_at};
-use crate::noting::note_in;
+use crate::note::note_in;
 use std::alloc::{AllocError, Global};
 use std::marker::Model;
 use word_index::Piece;
@@ -35,7 +35,7 @@ impl Walked {
     /// A walk that has found the root alone and listed nothing.
     pub fn new(alloc: Global, root: &str) -> Result<Walked, AllocError>
         ensures new { IfOk result (λ w. w ≡ new_walk root.now) }
-        ensures told { IfOk result (λ w. (t : Told) → IsWalkOf w t) }
+        ensures reported { IfOk result (λ w. (t : Contents) → IsWalkOf w t) }
     {
         let name = String::from_str(alloc, root)?;
         let dirs = first_dirs(alloc, root)?;
@@ -89,7 +89,7 @@ impl Walked {
         requires lawful { IsListingOf dir.now listing }
         ensures ok { OnOk result (Notes self.old self.new dir.now listing) }
         ensures err { IfErr result (λ l. (l ≡ listing) × (self.new ≡ self.old)) }
-        ensures told { OnOk result ((t : Told) → IsWalkOf self.old t → IsToldBy t dir.now listing → IsWalkOf self.new t) }
+        ensures reported { OnOk result ((t : Contents) → IsWalkOf self.old t → IsReportedBy t dir.now listing → IsWalkOf self.new t) }
     {
         note_in(
             self.root.as_str(),

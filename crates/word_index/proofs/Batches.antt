@@ -266,6 +266,6 @@ module _ (fs : List File) (f : File) (a b : Held) (h : HoldsFiles fs a) (path : 
     lows = more_lows [] (ap (λ t. cond t [] (map lower f.bytes)) long) lows;
   }
 
--- behind the last of rising paths is behind all
+-- after the last of rising paths is after all
 pub above_last : (paths : List (List ℕ)) (path : List ℕ) (last : ℕ) → last + 1 ≡ length paths → IsRising paths → IsBelow (get_or paths last []) path → IsAboveAll path paths
 above_last paths path last end rise below p h = subst (λ (q : List ℕ). IsBelow q path) (found paths p h) (before_place paths rise h.0 last path (omega (arith, end, h.1)) (omega (arith, end)) below)

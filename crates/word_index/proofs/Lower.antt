@@ -33,10 +33,10 @@ pub runs_lower : (inside : Bool) (line : ℕ) (bs : List ℕ) → runs inside li
 runs_lower inside line [] = refl
 runs_lower inside line (b ∷ bs) =
     let more = runs_lower true line bs in
-    let behind = ap (λ t. runs false (cond t (line + 1) line) (map lower bs)) (newline_lower b) ∙ runs_lower false (line_after line b) bs in
+    let following = ap (λ t. runs false (cond t (line + 1) line) (map lower bs)) (newline_lower b) ∙ runs_lower false (line_after line b) bs in
     let run = take_while is_word_byte (b ∷ bs) in
     let first = prefix_same (b ∷ bs) in
-    (λ i. cond (word_byte_lower b i) (cond inside (more i) ((first i, line) ∷ more i)) (behind i))
+    (λ i. cond (word_byte_lower b i) (cond inside (more i) ((first i, line) ∷ more i)) (following i))
     ∙ ap (λ l. cond (is_word_byte b) l (map lowered (runs false (line_after line b) bs))) (map_cond inside (runs true line bs) ((run, line) ∷ runs true line bs))
     ∙ map_cond (is_word_byte b) (cond inside (runs true line bs) ((run, line) ∷ runs true line bs)) (runs false (line_after line b) bs)
 

@@ -51,7 +51,7 @@ module _ {X : Type 0} where
   ends_push block more start [] h = (omega (arith, h), sym (length-append block more))
   ends_push block more start (e ∷ ends) h = (h.0, ends_push block more e ends h.1)
 
-  -- the parts one behind the other are the block
+  -- the parts one after the other are the block
   pub parts_joined : (block : List X) (start : ℕ) (ends : List ℕ) → AreEnds block start ends → flat_map (λ r. r) (parts block start ends) ≡ drop start block
   parts_joined block start [] h = sym (drop_all start block (omega (arith, h)))
   parts_joined block start (e ∷ ends) h =

@@ -1,4 +1,4 @@
--- More elements behind the first or the second of two lists, and behind a list of the elements of both.
+-- More elements after the first or the second of two lists, and after a list of the elements of both.
 use Rattle.std.proofs.Common.{◌≡◌, List, ◌++◌, subst, sym, append_assoc, IsPermutation}
 use Rattle.std.proofs.lemmas.List.Sorted.{IsPermutation-refl, IsPermutation-trans, IsPermutation-append, IsPermutation-append_left, IsPermutation-append_right, IsPermutation-append_comm}
 

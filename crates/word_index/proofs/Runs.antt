@@ -8,7 +8,7 @@ use Rattle.word_index.specs.Words.{is_word_byte, runs, line_after}
 drop_one_more : (b : ℕ) (bs : List ℕ) (m : ℕ) → drop (1 + m) (b ∷ bs) ≡ drop m bs
 drop_one_more b bs m = subst (λ k. drop k (b ∷ bs) ≡ drop m bs) {x = suc m} (omega arith) refl
 
--- inside a run, the next run begins behind it
+-- inside a run, the next run begins after it
 pub runs_inside : (line : ℕ) (bs : List ℕ) → runs true line bs ≡ runs false line (drop (prefix_len is_word_byte bs) bs)
 runs_inside line [] = refl
 runs_inside line (b ∷ bs) = by (is_word_byte b) refl (runs_inside line bs)
@@ -18,7 +18,7 @@ runs_inside line (b ∷ bs) = by (is_word_byte b) refl (runs_inside line bs)
     by true e h = h ∙ ap (runs false line) (sym (drop_one_more b bs _))
     by false e h = sym (rw e refl)
 
--- at a word byte behind none, a run stands, and what follows begins behind it
+-- at a word byte after none, a run stands, and what follows begins after it
 pub runs_at_word : (line b : ℕ) (bs : List ℕ) → is_word_byte b ≡ true → runs false line (b ∷ bs) ≡ (take_while is_word_byte (b ∷ bs), line) ∷ runs false line (drop (prefix_len is_word_byte (b ∷ bs)) (b ∷ bs))
 runs_at_word line b bs e =
     let n : Bool → ℕ = λ t. cond t (1 + prefix_len is_word_byte bs) 0 in

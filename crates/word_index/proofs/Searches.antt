@@ -25,15 +25,15 @@ not_below x y same less =
 pub found : (xs : List (List ℕ)) (p : List ℕ) → (h : Contains xs p) → get_or xs h.0 [] ≡ p
 found xs p h = get_or_default xs h.0 [] p h.1 ∙ h.2
 
--- elements of a rising list before and behind a place
+-- elements of a rising list before and after a place
 pub before_place : (xs : List (List ℕ)) → IsRising xs → (k m : ℕ) (p : List ℕ) → k < m + 1 → m < length xs → IsBelow (get_or xs m []) p → IsBelow (get_or xs k []) p
 before_place xs rise k m p near within less = ⊎_elim
     (λ (lt : k < m). below_trans (get_or xs k []) (get_or xs m []) p (rise k m [] lt within) less)
     (λ (ge : m ≤ k). let same : m ≡ k = omega arith in subst (λ n. IsBelow (get_or xs n []) p) same less)
     (cases_lt k m)
 
-behind_place : (xs : List (List ℕ)) → IsRising xs → (k m : ℕ) (p : List ℕ) → m ≤ k → k < length xs → IsBelow p (get_or xs m []) → IsBelow p (get_or xs k [])
-behind_place xs rise k m p near within less = ⊎_elim
+after_place : (xs : List (List ℕ)) → IsRising xs → (k m : ℕ) (p : List ℕ) → m ≤ k → k < length xs → IsBelow p (get_or xs m []) → IsBelow p (get_or xs k [])
+after_place xs rise k m p near within less = ⊎_elim
     (λ (lt : m < k). below_trans p (get_or xs m []) (get_or xs k []) less (rise m k [] lt within))
     (λ (ge : k ≤ m). let same : m ≡ k = omega arith in subst (λ n. IsBelow p (get_or xs n [])) same less)
     (cases_lt m k)
@@ -43,10 +43,10 @@ pub record Searching (xs : List (List ℕ)) (p : List ℕ) (low high : ℕ) : Ty
   pub order : low ≤ high
   pub within : high ≤ length xs
   pub before : (k : ℕ) → k < low → IsBelow (get_or xs k []) p
-  pub behind : (k : ℕ) → high ≤ k → k < length xs → IsBelow p (get_or xs k [])
+  pub following : (k : ℕ) → high ≤ k → k < length xs → IsBelow p (get_or xs k [])
 
 pub searching_all : (xs : List (List ℕ)) (p : List ℕ) → Searching xs p 0 (length xs)
-searching_all xs p = record { order = omega arith; within = omega arith; before = λ k below. absurd (omega (arith, below)); behind = λ k far below. absurd (omega (arith, far, below)) }
+searching_all xs p = record { order = omega arith; within = omega arith; before = λ k below. absurd (omega (arith, below)); following = λ k far below. absurd (omega (arith, far, below)) }
 
 module _ {xs : List (List ℕ)} {p : List ℕ} {low high : ℕ} (s : Searching xs p low high) where
   pub searching_above : IsRising xs → (m : ℕ) → low ≤ m → m < high → IsBelow (get_or xs m []) p → Searching xs p (m + 1) high
@@ -54,7 +54,7 @@ module _ {xs : List (List ℕ)} {p : List ℕ} {low high : ℕ} (s : Searching x
     order = omega arith;
     within = s.within;
     before = λ k near. before_place xs rise k m p near (omega (arith, below, s.within)) less;
-    behind = s.behind;
+    following = s.following;
   }
 
   pub searching_under : IsRising xs → (m : ℕ) → low ≤ m → m < high → IsBelow p (get_or xs m []) → Searching xs p low m
@@ -62,13 +62,13 @@ module _ {xs : List (List ℕ)} {p : List ℕ} {low high : ℕ} (s : Searching x
     order = from;
     within = omega (arith, below, s.within);
     before = s.before;
-    behind = λ k far within. behind_place xs rise k m p far within less;
+    following = λ k far within. after_place xs rise k m p far within less;
   }
 
   pub searched_all : high ≤ low → Contains xs p → ⊥
   searched_all ended h = ⊎_elim
       (λ (lt : h.0 < low). not_below (get_or xs h.0 []) p (found xs p h) (s.before h.0 lt))
-      (λ (ge : low ≤ h.0). not_below p (get_or xs h.0 []) (sym (found xs p h)) (s.behind h.0 (omega (arith, ge, ended)) h.1))
+      (λ (ge : low ≤ h.0). not_below p (get_or xs h.0 []) (sym (found xs p h)) (s.following h.0 (omega (arith, ge, ended)) h.1))
       (cases_lt h.0 low)
 
 -- of two rising lists, what stands before the places i and j is not in the other
@@ -93,7 +93,7 @@ apart_first {xs} {ys} {i} {j} rise a here less = record {
       let at : Contains ys (get_or xs i []) = subst (λ n. Contains ys (get_or xs n [])) (sym same) there in
       ⊎_elim
       (λ (lt : at.0 < j). a.of_y at.0 lt (subst (Contains xs) (sym (found ys (get_or xs i []) at)) (Contains-get_or xs i [] here)))
-      (λ (far : j ≤ at.0). not_below (get_or xs i []) (get_or ys at.0 []) (sym (found ys (get_or xs i []) at)) (behind_place ys rise at.0 j (get_or xs i []) far at.1 less))
+      (λ (far : j ≤ at.0). not_below (get_or xs i []) (get_or ys at.0 []) (sym (found ys (get_or xs i []) at)) (after_place ys rise at.0 j (get_or xs i []) far at.1 less))
       (cases_lt at.0 j))
       (cases_lt k i);
   of_y = a.of_y;

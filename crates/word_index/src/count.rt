@@ -8,7 +8,7 @@ ghost use Rattle.word_index.specs.Links.{link_at, HoldPlaces, AreAbove, bumped, 
 ghost use Rattle.word_index.specs.Batch.{IsShort};
 ghost use Rattle.word_index.specs.declared.rows.Place.{Place};
 
-use crate::joining::number_of;
+use crate::join::number_of;
 use crate::keyed::Keyed;
 use crate::links::{Link, next_link};
 use crate::rows::Place;

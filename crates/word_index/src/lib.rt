@@ -12,11 +12,11 @@
 mod batch;
 mod blocks;
 mod count;
-mod joining;
+mod join;
 mod keyed;
 pub mod laws;
 mod links;
-mod merging;
+mod merges;
 mod of_file;
 mod piece;
 mod rows;
@@ -26,9 +26,9 @@ mod words;
 
 pub use batch::Batch;
 pub use blocks::part_of;
-pub use joining::number_of;
+pub use join::number_of;
 pub use keyed::Keyed;
-pub use merging::{merge, merge_or_drop};
+pub use merges::{merge, merge_or_drop};
 pub use of_file::piece_of;
 pub use piece::{Found, Piece};
 pub use strings::Strings;

@@ -2,7 +2,7 @@
 ghost use Rattle.std.specs.Prelude.{◌≡◌, ◌+◌, ◌<◌, ◌^◌, ℕ, List, ◌++◌, take, length, IfOk, OnOk};
 ghost use Rattle.word_index.specs.Links.{IsChain, IsLinked, AddsLinked, bumped};
 
-use crate::joining::number_of;
+use crate::join::number_of;
 use crate::rows::Place;
 use std::alloc::AllocError;
 

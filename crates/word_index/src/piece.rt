@@ -3,7 +3,7 @@ ghost use Rattle.std.specs.Prelude.{◌≡◌, ◌+◌, ◌<◌, ◌↔◌, ℕ,
 ghost use Rattle.std.specs.List.{Contains};
 ghost use Rattle.word_index.specs.Index.{IsIndexOf, Meet, entries, occurrences, row_at, hit_at};
 
-use crate::joining::order_at;
+use crate::join::order_at;
 use crate::rows::Rows;
 use crate::strings::Strings;
 use std::alloc::Global;

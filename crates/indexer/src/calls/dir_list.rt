@@ -1,7 +1,7 @@
 //! The calls at the list of directories.
 ghost use Rattle.std.specs.Prelude.{◌≡◌, ◌≢◌, ℕ, [], List, Option, Some, IfSome, IsTrue, All, Contains, drop, length};
 ghost use Rattle.std.specs.Option.{option_to_list};
-ghost use Rattle.firefly_outside.specs.Trees.{Path, Told};
+ghost use Rattle.firefly_outside.specs.Trees.{Path, Contents};
 ghost use Rattle.indexer.specs.Gets.{Counts, Gets, Makes, MayPutAll, OfShare, moved_more, nothing};
 ghost use Rattle.indexer.specs.Turns.{HasCalled, HasList, HasLists, HasWoken, IsAs, IsBetween, Worker};
 ghost use Rattle.nub.specs.Rest.{AtRest};
@@ -41,7 +41,7 @@ fn give_list<R: Wait>(rt: &R, p: &Package<IndexUses>, me: &mut Thread<IndexUses>
         × MovesDirs (waiting_of x) dirs.list.waiting.items h.own (moved_by x (IndexValue.Dirs dirs) h.own)
         × MovesCounts x (IndexValue.Dirs dirs) h.own (moved_by x (IndexValue.Dirs dirs) h.own) }
     ensures rest { AtRest p.now me.new }
-    ensures called { (a : Worker) (x : IndexValue) → HasList p.now a x me.old → IsBetween p.now a → (o : Option Told) (root : Path)
+    ensures called { (a : Worker) (x : IndexValue) → HasList p.now a x me.old → IsBetween p.now a → (o : Option Contents) (root : Path)
         → HasCalled o root [] p.now 0 1 a me.new × ((m : ℕ) → HasCalled o root [] p.now m 0 a me.new) }
     ensures gets { (a : Worker) (x : IndexValue) → HasList p.now a x me.old
         → Gets p.now (moved_more (drop (length dirs.list.waiting.items) (waiting_of x))
@@ -110,7 +110,7 @@ fn wait_for_dirs<R: Wait>(
 pub fn next_dir<R: Wait>(rt: &R, p: &Package<IndexUses>, me: &mut Thread<IndexUses>) -> Option<Text>
     requires layout { HasLists p.now.layout }
     requires between { IsBetween p.now me.old }
-    ensures called { (o : Option Told) (root : Path) → HasCalled o root [] p.now 0 1 me.old me.new }
+    ensures called { (o : Option Contents) (root : Path) → HasCalled o root [] p.now 0 1 me.old me.new }
     ensures gets { Gets p.now (moved_more (option_to_list result) []) me.old me.new }
     ensures new { IfSome result (λ dir. OfShare me.old (λ s. ¬ Contains s.took dir)) }
 {

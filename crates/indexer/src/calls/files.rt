@@ -1,6 +1,6 @@
 //! The calls at the buffer of files.
 ghost use Rattle.std.specs.Prelude.{◌≡◌, ◌↔◌, ◌⊎◌, ℕ, [], ◌∷◌, List, Option, IsTrue, IfSome, IfOk, All, Contains};
-ghost use Rattle.firefly_outside.specs.Trees.{Path, Told};
+ghost use Rattle.firefly_outside.specs.Trees.{Path, Contents};
 ghost use Rattle.index_rule.specs.Shares.{IsItemAt, MayPut, paths_put};
 ghost use Rattle.indexer.specs.Gets.{Gets, IsNewFile, Makes, MayPutAll, OfShare, nothing};
 ghost use Rattle.indexer.specs.Taken.{path_of};
@@ -94,7 +94,7 @@ pub fn next_file<R: Wait>(
 ) -> Option<Text>
     requires layout { HasLists p.now.layout }
     requires between { IsBetween p.now me.old }
-    ensures called { (o : Option Told) (root : Path) → HasCalled o root [] p.now 1 1 me.old me.new }
+    ensures called { (o : Option Contents) (root : Path) → HasCalled o root [] p.now 1 1 me.old me.new }
     ensures gets { (taken : List Path) × Gets p.now (record nothing { files_taken = taken }) me.old me.new
         × IfSome result (λ path. (taken ≡ path ∷ []) × OfShare me.old (IsNewFile p.now.world path)) }
 {

@@ -3,7 +3,7 @@ ghost use Rattle.std.specs.Prelude.{◌≡◌, ℕ, [], Option, IfOk, IfSome, Er
 ghost use Rattle.std.specs.List.{flat_map};
 ghost use Rattle.bounded_buffer.specs.Plain.{part_of};
 ghost use Rattle.bounded_buffer.specs.declared.ends.TakeEnd.{TakeEnd};
-ghost use Rattle.firefly_outside.specs.Trees.{Path, Told};
+ghost use Rattle.firefly_outside.specs.Trees.{Path, Contents};
 ghost use Rattle.index_findings.specs.Pieces.{IsFilesPiece};
 ghost use Rattle.index_rule.specs.Distinct.{AreDisjoint};
 ghost use Rattle.index_rule.specs.Shares.{IsItemAt, MayPut, covered, paths_taken};
@@ -40,7 +40,7 @@ pub fn put_piece<R: Wait>(
     requires may { OfShare me.old (MayPut p.now.world 2 (IndexItem.Piece piece)) }
     ensures back { IfSome result (λ x. x ≡ piece) }
     ensures gets { Gets p.now (record nothing { pieces_put = given p.now.world result piece }) me.old me.new }
-    ensures called { (o : Option Told) (root : Path) (m : ℕ) → IsFilesPiece o root piece → HasCalled o root [] p.now m 0 me.old me.new }
+    ensures called { (o : Option Contents) (root : Path) (m : ℕ) → IsFilesPiece o root piece → HasCalled o root [] p.now m 0 me.old me.new }
 {
     match put(rt, p, me, &PIECES, IndexItem::Piece(piece)) {
         Ok(_) => None,
@@ -73,7 +73,7 @@ pub fn next_piece<R: Wait>(
 ) -> Result<Piece, TakeEnd>
     requires layout { HasLists p.now.layout }
     requires between { IsBetween p.now me.old }
-    ensures called { (o : Option Told) (root : Path) (m : ℕ) → HasCalled o root (piece_in result) p.now m 0 me.old me.new }
+    ensures called { (o : Option Contents) (root : Path) (m : ℕ) → HasCalled o root (piece_in result) p.now m 0 me.old me.new }
     ensures gets { Gets p.now (record nothing { pieces_taken = flat_map (covered p.now.world) (piece_in result) }) me.old me.new }
     ensures new { IfOk result (λ x. OfShare me.old (λ s. AreDisjoint (covered p.now.world x) (paths_taken p.now.world 2 s))) }
     ensures ended { result ≡ Err TakeEnd.ClosedEmpty → OfShare me.new (λ s. (part_of s.notes 2).seen_end ≡ true) }

@@ -1,6 +1,6 @@
 //! The workers, at work all at once.
 ghost use Rattle.std.specs.Prelude.{◌≡◌, ◌≤◌, ◌<◌, [], length, IfOk, OnErr, Option};
-ghost use Rattle.firefly_outside.specs.Trees.{Path, Told};
+ghost use Rattle.firefly_outside.specs.Trees.{Path, Contents};
 ghost use Rattle.nub_rule.specs.Items.{Each};
 ghost use Rattle.package_crew.specs.Crews.{CameBack};
 ghost use Rattle.indexer.specs.Gets.{Makes, nothing};
@@ -9,8 +9,8 @@ ghost use Rattle.indexer.specs.Says.{AreLeft};
 ghost use Rattle.indexer.specs.Turns.{HasLists, IsBetween};
 
 use crate::job::Job;
-use crate::run::ending::shut_all;
-use crate::run::handing::{jobs_of, put_back};
+use crate::run::early_end::shut_all;
+use crate::run::trees::{jobs_of, put_back};
 use crate::work::work;
 use firefly_outside::Tree;
 use index_findings::Findings;

@@ -1,7 +1,7 @@
 //! The work of a merger.
 ghost use Rattle.std.specs.Prelude.{◌≡◌, ℕ, [], Option, None, Ok, true, false};
 ghost use Rattle.bounded_buffer.specs.Plain.{part_of};
-ghost use Rattle.firefly_outside.specs.Trees.{Path, Told};
+ghost use Rattle.firefly_outside.specs.Trees.{Path, Contents};
 ghost use Rattle.walker.specs.Pile.{AreApart};
 ghost use Rattle.index_findings.specs.Pieces.{AreMergedFrom};
 ghost use Rattle.indexer.specs.Gets.{OfShare};
@@ -10,7 +10,7 @@ ghost use Rattle.indexer.specs.States.{HasMerged, merge_lost};
 ghost use Rattle.indexer.specs.Turns.{HasCalled, HasLists, IsBetween, IsReady, Worker};
 
 use crate::calls::pieces::next_piece;
-use crate::run::ending::cancel;
+use crate::run::early_end::cancel;
 use bounded_buffer::TakeEnd;
 use index_findings::{Findings, keep, merge_rest};
 use index_rule::IndexUses;
@@ -31,7 +31,7 @@ fn merge_once<R: Wait>(
     requires layout { HasLists p.now.layout }
     requires between { IsBetween p.now me.old }
     requires share { OfShare me.old (HasMerged p.now.world kept.old.items false) }
-    ensures called { (o : Option Told) (root : Path) (a : Worker) → HasCalled o root kept.old.items p.now 0 0 a me.old
+    ensures called { (o : Option Contents) (root : Path) (a : Worker) → HasCalled o root kept.old.items p.now 0 0 a me.old
         → HasCalled o root kept.new.items p.now 0 0 a me.new }
     ensures share { OfShare me.new (HasMerged p.now.world kept.new.items (merge_lost result)) }
     ensures ended { result ≡ Ok false → OfShare me.new (λ s. (part_of s.notes 2).seen_end ≡ true) }
@@ -50,7 +50,7 @@ fn merge_once<R: Wait>(
 }
 
 // The findings of a merger: its pieces, merged as far as they may be.
-fn merged(alloc: Global, mut kept: Vec<Piece>, lost: bool) -> Findings
+fn merge_all(alloc: Global, mut kept: Vec<Piece>, lost: bool) -> Findings
     requires { AreApart kept.items }
     ensures pieces { AreMergedFrom kept.items result.pieces.items }
     ensures visits { result.visits.items ≡ [] }
@@ -80,7 +80,7 @@ pub fn merge_all<R: Wait>(
     requires ready { IsReady p.now me.old }
     ensures share { OfShare me.new (IsLeft p.now.world [] result) }
     ensures ended { result.lost ≡ false → OfShare me.new (λ s. (part_of s.notes 2).seen_end ≡ true) }
-    ensures called { (o : Option Told) (root : Path) → HasCalled o root result.pieces.items p.now 0 0 me.old me.new }
+    ensures called { (o : Option Contents) (root : Path) → HasCalled o root result.pieces.items p.now 0 0 me.old me.new }
     ensures visits { result.visits.items ≡ [] }
     ensures fault { result.fault ≡ None }
 {
@@ -88,8 +88,8 @@ pub fn merge_all<R: Wait>(
     for _ in rt.forever() {
         match merge_once(rt, p, me, &mut kept) {
             Ok(true) => {}
-            Ok(false) => return merged(alloc, kept, false),
-            Err(_) => return merged(alloc, kept, true),
+            Ok(false) => return merge_all(alloc, kept, false),
+            Err(_) => return merge_all(alloc, kept, true),
         }
     }
     unreachable!()

@@ -7,7 +7,7 @@ ghost use Rattle.nub_rule.specs.Items.{Distinct, Small};
 ghost use Rattle.nub_rule.specs.Known.{Holds, Makes, StandsAs, learnt};
 ghost use Rattle.nub_rule.specs.Parts.{IsAlerted, MayTell, made};
 ghost use Rattle.nub_rule.specs.Places.{cond_object, most_threads};
-ghost use Rattle.nub_rule.specs.Plays.{begun_wait, behind, broadcast_action, enqueue_event, event, less, recounted, signal_action, unread};
+ghost use Rattle.nub_rule.specs.Plays.{begun_wait, tail_of, broadcast_action, enqueue_event, event, less, recounted, signal_action, unread};
 
 use crate::object::Object;
 use crate::package::{Package, Thread};
@@ -17,7 +17,7 @@ use crate::plays::{
     LoadCountAlertable,
 };
 use crate::queueing::leave;
-use crate::slot::set_behind;
+use crate::slot::set_past;
 use crate::slots_at_hand::bring;
 use crate::stepping::{fetch_add, load, slot_mut};
 use crate::uses::Uses;
@@ -91,11 +91,11 @@ pub fn advance_signal<U: Uses>(p: &Package<U>, me: &mut Thread<U>, c: CondId) ->
     requires room { me.old.count < 18446744073709551615 }
     requires pen { MayTell p.now.traced me.old.life me.old.pen }
     ensures count { result.0 ≡ me.old.count }
-    ensures left { result.1 ≡ set_of (behind me.old.queue) }
+    ensures left { result.1 ≡ set_of (tail_of me.old.queue) }
     ensures distinct { Distinct me.old.queue }
-    ensures event { Makes (event me.old.number (signal_action c.0 (behind me.old.queue))) me.old me.new }
+    ensures event { Makes (event me.old.number (signal_action c.0 (tail_of me.old.queue))) me.old me.new }
     ensures advanced { me.new ≡ record (learnt me.old me.new) {
-      left = behind me.old.queue;
+      left = tail_of me.old.queue;
       count = me.old.count + 1;
       calling = None;
       pen = made me.old.pen;
@@ -103,7 +103,7 @@ pub fn advance_signal<U: Uses>(p: &Package<U>, me: &mut Thread<U>, c: CondId) ->
 {
     let o = CONDITIONS + c.0 as usize;
     bring(&mut me.hand, &mut me.seat, o as u16);
-    let left = set_behind(slot_mut(&mut me.seat, &p.table.shared, o));
+    let left = set_past(slot_mut(&mut me.seat, &p.table.shared, o));
     let count = fetch_add::<AdvanceSignal, U>(&p.table, &mut me.seat, count_word(c), 1);
     (count, left)
 }

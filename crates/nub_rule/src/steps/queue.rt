@@ -5,7 +5,7 @@ ghost use Rattle.nub_rule.specs.declared.view.Stage.TheVariants.{Pushed, Clear, 
 ghost use Rattle.nub_rule.specs.Known.{StandsAs, MayPush, MayPop};
 ghost use Rattle.nub_rule.specs.Objects.{object_of, HasObject, IsGate, IsCond};
 ghost use Rattle.nub_rule.specs.Parts.{staged, IsUntested, IsClear};
-ghost use Rattle.nub_rule.specs.Plays.{behind, less, unread};
+ghost use Rattle.nub_rule.specs.Plays.{tail_of, less, unread};
 
 use crate::object::Object;
 use crate::package::{Package, Thread};
@@ -101,16 +101,16 @@ pub fn pop_queue<U: Uses>(p: &Package<U>, me: &mut Thread<U>, at: Object) -> Opt
     requires may { MayPop at me.old }
     ensures none { result ≡ None → me.old.queue ≡ [] }
     ensures owes { result ≡ None → me.new.owed ≡ me.old.owed }
-    ensures first { (t : ThreadId) → result ≡ Some t → (me.old.queue ≡ t.0 ∷ behind me.old.queue)
+    ensures first { (t : ThreadId) → result ≡ Some t → (me.old.queue ≡ t.0 ∷ tail_of me.old.queue)
         × (me.new.owed ≡ me.old.owed ++ t.0 ∷ []) }
     ensures gate { IsGate at → me.new ≡ record me.old {
-      queue = behind me.old.queue;
-      left = behind me.old.left;
+      queue = tail_of me.old.queue;
+      left = tail_of me.old.left;
       owed = me.new.owed;
       cleared = without (object_of at) me.old.cleared;
       looked = without (object_of at) me.old.looked;
     } }
-    ensures cond { IsCond at → me.new ≡ record me.old { queue = behind me.old.queue; owed = me.new.owed } }
+    ensures cond { IsCond at → me.new ≡ record me.old { queue = tail_of me.old.queue; owed = me.new.owed } }
 {
     match at {
         Object::Mutex(_) | Object::Sem(_) => pop::<PopGate, U>(p, me, at),

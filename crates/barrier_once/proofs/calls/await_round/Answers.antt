@@ -46,7 +46,7 @@ release-requires-clause-may g c κs within =
       x,
       inv.3.holds,
       of_own (λ v u. Allowed v m c.loop.me.number x x u (record u { left = u.left + 1 })) c.loop.me w (arrived_share s) (inv.3.same.world ∙ b.world) inv.3.share
-          (inr (inr (inr (inl record { mutex = ap (λ l. l.bar.0) b.placed.world; behind = omega arith; over = over; now = refl; share = refl })))),
+          (inr (inr (inr (inl record { mutex = ap (λ l. l.bar.0) b.placed.world; following = omega arith; over = over; now = refl; share = refl })))),
     )
 
 pub returns-then-round : goal.returns-then-round

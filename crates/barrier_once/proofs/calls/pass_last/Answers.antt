@@ -12,12 +12,12 @@ returns g c = λ s b.
     let m = c.args.at.now.bar.0 in
     let o = c.args.at.now.cond.0 in
     let w = c.args.p.now.world in
-    let told = c.broadcast.ensures in
+    let recorded = c.broadcast.ensures in
     let gave = c.release.ensures in
     record {
       rest = gave.rest;
-      same = same_on a z c.release.new.me told.same gave.same;
-      ran = (event a.number (broadcast_action o []) ∷ [], inl refl, woke_after m o a z c.release.new.me told.same told.event gave.event);
-      held = gave.held ∙ ap (λ h. slice_set h m None) told.held;
-      share = gave.share w s c.args.bar (told.same.world ∙ b.world) (told.share ∙ b.share) (ap (λ h. get_elem? h m) told.held ∙ b.holds);
+      same = same_on a z c.release.new.me recorded.same gave.same;
+      ran = (event a.number (broadcast_action o []) ∷ [], inl refl, woke_after m o a z c.release.new.me recorded.same recorded.event gave.event);
+      held = gave.held ∙ ap (λ h. slice_set h m None) recorded.held;
+      share = gave.share w s c.args.bar (recorded.same.world ∙ b.world) (recorded.share ∙ b.share) (ap (λ h. get_elem? h m) recorded.held ∙ b.holds);
     }

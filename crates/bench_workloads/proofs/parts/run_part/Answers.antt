@@ -3,7 +3,7 @@ use Rattle.larch_actions.specs.declared.event.Layout.{Layout}
 use mathlib.Core.Option.{some, some-injective}
 use lib.ListN.{get_elem?}
 use Rattle.nub_rule.proofs.Each.{at_below}
-use Rattle.nub.proofs.Users.{all_told, from_at, idle_done, share_count}
+use Rattle.nub.proofs.Users.{all_recorded, from_at, idle_done, share_count}
 use Rattle.sum_uses.specs.Sums.{added}
 use Rattle.sum_uses.proofs.Adding.{sums_begin, one_zero}
 use Rattle.bench_workloads.specs.Parts.{HasDonePart, Shows, adds, begun}
@@ -45,7 +45,7 @@ returns g c =
     let counts : length lefts ≡ c.args.threads.number = c.in-Ok.ensures.results ∙ started in
     let one = only_one c.in_ok-closed.closed.values (c.in_ok-closed.ensures.values.0 ∙ ap (λ l. l.mutexes) layout) in
     let kept = c.in_ok-closed.ensures.values.1 in
-    let all = all_told (λ n s. added 0 s ≡ adds part) threads kept.shares kept.each_share (λ n t at. let d = (done n t at).2 in (d.share, d.idle.share, d.sum)) in
+    let all = all_recorded (λ n s. added 0 s ≡ adds part) threads kept.shares kept.each_share (λ n t at. let d = (done n t at).2 in (d.share, d.idle.share, d.sum)) in
     let many = share_count threads kept.shares kept.each_share ∙ count in
     record {
       count = ap length same ∙ count;

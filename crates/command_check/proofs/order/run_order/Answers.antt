@@ -18,21 +18,21 @@ agreed status a b h (inl e) = inl (e ∙ same_status a b h)
 agreed status a b h (inr e) = inr e
 
 pub returns-in-NoCycle-clause-exact : goal.returns-in-NoCycle-clause-exact
-returns-in-NoCycle-clause-exact g c = λ bytes a told mine other f.
-    agreed c.print.result (order.NoCycle c.in-NoCycle.events) a (c.in-NoCycle.ensures.exact bytes a told (λ e. cc) other f) (printed _ _ _ _ _ c.print.ensures)
+returns-in-NoCycle-clause-exact g c = λ bytes a reported mine other f.
+    agreed c.print.result (order.NoCycle c.in-NoCycle.events) a (c.in-NoCycle.ensures.exact bytes a reported (λ e. cc) other f) (printed _ _ _ _ _ c.print.ensures)
 
 pub returns-in-Found-clause-exact : goal.returns-in-Found-clause-exact
-returns-in-Found-clause-exact g c = λ bytes a told mine other f.
-    agreed c.print-in-Found.result (order.Found c.in-Found.cycle) a (c.in-Found.ensures.exact bytes a told (λ e. cc) other f) (printed _ _ _ _ _ c.print-in-Found.ensures)
+returns-in-Found-clause-exact g c = λ bytes a reported mine other f.
+    agreed c.print-in-Found.result (order.Found c.in-Found.cycle) a (c.in-Found.ensures.exact bytes a reported (λ e. cc) other f) (printed _ _ _ _ _ c.print-in-Found.ensures)
 
 pub returns-in-Illegal-clause-exact : goal.returns-in-Illegal-clause-exact
-returns-in-Illegal-clause-exact g c = λ bytes a told mine other f.
-    agreed c.print-in-Illegal.result (order.Illegal c.in-Illegal.place c.in-Illegal.why) a (c.in-Illegal.ensures.exact bytes a told (λ e. cc) other f) (printed _ _ _ _ _ c.print-in-Illegal.ensures)
+returns-in-Illegal-clause-exact g c = λ bytes a reported mine other f.
+    agreed c.print-in-Illegal.result (order.Illegal c.in-Illegal.place c.in-Illegal.why) a (c.in-Illegal.ensures.exact bytes a reported (λ e. cc) other f) (printed _ _ _ _ _ c.print-in-Illegal.ensures)
 
 pub returns-in-BadLine-clause-exact : goal.returns-in-BadLine-clause-exact
-returns-in-BadLine-clause-exact g c = λ bytes a told mine other f.
-    agreed c.ends.result (order.BadLine c.in-BadLine.line) a (c.in-BadLine.ensures.exact bytes a told (λ e. cc) other f) (inl c.ends.ensures.status)
+returns-in-BadLine-clause-exact g c = λ bytes a reported mine other f.
+    agreed c.ends.result (order.BadLine c.in-BadLine.line) a (c.in-BadLine.ensures.exact bytes a reported (λ e. cc) other f) (inl c.ends.ensures.status)
 
 pub returns-in-TooLong-clause-exact : goal.returns-in-TooLong-clause-exact
-returns-in-TooLong-clause-exact g c = λ bytes a told mine other f.
-    agreed c.ends-in-TooLong.result order.TooLong a (c.in-TooLong.ensures.exact bytes a told (λ e. cc) other f) (inl c.ends-in-TooLong.ensures.status)
+returns-in-TooLong-clause-exact g c = λ bytes a reported mine other f.
+    agreed c.ends-in-TooLong.result order.TooLong a (c.in-TooLong.ensures.exact bytes a reported (λ e. cc) other f) (inl c.ends-in-TooLong.ensures.status)

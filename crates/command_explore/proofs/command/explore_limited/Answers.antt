@@ -36,8 +36,8 @@ returns-in-Err-clause-exact g c =
     let notes = change_of g.N.Sink.held g.N.Sink.faults c.args.notes.now c.ends_refused.new.notes in
     refused_decides As Own input notes c.in-Err.fault c.ends_refused.result c.in-Err.ensures.fault c.ends_refused.ensures
 
-pub returns-in-Err-clause-told : goal.returns-in-Err-clause-told
-returns-in-Err-clause-told g c =
+pub returns-in-Err-clause-reported : goal.returns-in-Err-clause-reported
+returns-in-Err-clause-reported g c =
     let input = change_of g.I.Source.left g.I.Source.faults c.args.input.now c.read_script.new.input in
     let notes = change_of g.N.Sink.held g.N.Sink.faults c.args.notes.now c.ends_refused.new.notes in
-    refused_tells input notes c.in-Err.fault c.ends_refused.result c.ends_refused.ensures c.in-Err.ensures.told.otherwise
+    refused_tells input notes c.in-Err.fault c.ends_refused.result c.ends_refused.ensures c.in-Err.ensures.reported.otherwise

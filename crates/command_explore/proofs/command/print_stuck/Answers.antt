@@ -3,8 +3,8 @@ use Rattle.command_endings.specs.Changes.{change_of}
 use Rattle.command_explore.proofs.Answering.{no_memory}
 use Rattle.command_explore.proofs.command.print_stuck.Goals as goal
 
-pub print_told-requires-clause-text : goal.print_told-requires-clause-text
-print_told-requires-clause-text g c = c.as_str.ensures.value ∙ c.in-Ok.ensures
+pub print_reported-requires-clause-text : goal.print_reported-requires-clause-text
+print_reported-requires-clause-text g c = c.as_str.ensures.value ∙ c.in-Ok.ensures
 
 pub returns-in-Err : goal.returns-in-Err
 returns-in-Err g c =

@@ -32,7 +32,7 @@ loop-line-preserved g c =
       consumed =
           subst (Consumes (g.I.Source.left c.args.input.now) (rest_of c.another_line.new.intake (g.I.Source.left c.another_line.new.input))) (sym (ap (flat_map line_text) items ∙ flat_map-append line_text lines (line ∷ []) ∙ ap (λ l. flat_map line_text lines ++ l) one))
           (Consumes-trans (g.I.Source.left c.args.input.now) (rest_of c.loop-line.intake (g.I.Source.left c.loop-line.input)) _ (flat_map line_text lines) (line_text line) was.consumed taken.1);
-      unfailed = e.told.unfailed ∙ was.unfailed;
+      unfailed = e.reported.unfailed ∙ was.unfailed;
     }
 
 pub returns-in-Err-clause-fault : goal.returns-in-Err-clause-fault

@@ -7,19 +7,19 @@ use Rattle.command_jobs.proofs.lines.put_line.Goals as goal
 
 pub returns-in_err-put_with_number-2-clause-text : goal.returns-in_err-put_with_number-2-clause-text
 returns-in_err-put_with_number-2-clause-text g c =
-    let told = g.O.Sink.held c.args.out.now in
+    let reported = g.O.Sink.held c.args.out.now in
     let held = c.args.held.now.items in
     let place = decimal c.args.place in
     let value = codes " " ++ decimal c.args.value in
-    puts_failed c.from_residual-in_err-put_with_number-2.result told _ held _ _ c.from_residual-in_err-put_with_number-2.ensures.0
-    (prefix_of_two told _ held (place ++ value) newline
-    (fails_then told (g.O.Sink.held c.put_with_number.new.out) _ held c.put_with_number.new.held.items place value c.in_ok-put_with_number.ensures.text c.in_err-put_with_number-2.ensures.text))
+    puts_failed c.from_residual-in_err-put_with_number-2.result reported _ held _ _ c.from_residual-in_err-put_with_number-2.ensures.0
+    (prefix_of_two reported _ held (place ++ value) newline
+    (fails_then reported (g.O.Sink.held c.put_with_number.new.out) _ held c.put_with_number.new.held.items place value c.in_ok-put_with_number.ensures.text c.in_err-put_with_number-2.ensures.text))
 
 pub returns-clause-text : goal.returns-clause-text
 returns-clause-text g c =
-    let told = g.O.Sink.held c.args.out.now in
+    let reported = g.O.Sink.held c.args.out.now in
     let held = c.args.held.now.items in
     let place = decimal c.args.place in
     let value = codes " " ++ decimal c.args.value in
-    puts_then c.put.result told (g.O.Sink.held c.put_with_number-2.new.out) _ held c.put_with_number-2.new.held.items _ (place ++ value) newline
-    (sends_then told (g.O.Sink.held c.put_with_number.new.out) _ held c.put_with_number.new.held.items _ place value c.in_ok-put_with_number.ensures.text c.in_ok-put_with_number-2.ensures.text) c.put.ensures.text
+    puts_then c.put.result reported (g.O.Sink.held c.put_with_number-2.new.out) _ held c.put_with_number-2.new.held.items _ (place ++ value) newline
+    (sends_then reported (g.O.Sink.held c.put_with_number.new.out) _ held c.put_with_number.new.held.items _ place value c.in_ok-put_with_number.ensures.text c.in_ok-put_with_number-2.ensures.text) c.put.ensures.text

@@ -63,9 +63,9 @@ returns g c = λ n begun few.
     let b = c.play_half.new.me in
     let d = c.ask-answer.new.me in
     let e = c.arrive.new.me in
-    let told = c.ask-answer.ensures n (half_own p t n b half) in
-    let h = half_at p t b.number n d half.between.idle.number told.0 in
+    let reported = c.ask-answer.ensures n (half_own p t n b half) in
+    let h = half_at p t b.number n d half.between.idle.number reported.0 in
     let came = c.arrive.ensures in (
       played p t n d e h (arrived p t h.share (passed_share h.share) _ d e h.between came.rest came.same (subst (λ l. Arrived d.number l.bar.0 l.cond.0 d e) c.places-at.ensures came.ran) came.held (came.share h.share h.between.idle.share)),
-      λ z. told.1 (half.between.idle.number ∙ z),
+      λ z. reported.1 (half.between.idle.number ∙ z),
     )

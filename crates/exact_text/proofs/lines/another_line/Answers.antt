@@ -1,7 +1,7 @@
 use Rattle.std.proofs.Common.{◌-◌, refl, arith}
 use Rattle.exact_text.specs.Intake.{rest_of}
 use Rattle.exact_text.proofs.LinesOf.{some_left, nothing_left, since_asked, full_reason}
-use Rattle.exact_text.proofs.Told.{same_told, fault_told}
+use Rattle.exact_text.proofs.Reported.{same_reported, fault_reported}
 use Rattle.exact_text.proofs.lines.another_line.Goals as goal
 
 pub returns-in-Ok-false-clause-end : goal.returns-in-Ok-false-clause-end
@@ -9,11 +9,11 @@ returns-in-Ok-false-clause-end g c =
     let a = rw c.in-Ok-false.field-0-test at c.in-Ok-false.ensures.asked in
     (nothing_left (g.I.Source.left c.args.input.now) (g.I.Source.left c.goes_on.new.input) c.args.intake.now.window a.1 a.2 a.3, a.3)
 
-pub returns-in-Ok-false-clause-told : goal.returns-in-Ok-false-clause-told
-returns-in-Ok-false-clause-told g c = same_told _ _ _ c.in-Ok-false.ensures.told.unfailed
+pub returns-in-Ok-false-clause-reported : goal.returns-in-Ok-false-clause-reported
+returns-in-Ok-false-clause-reported g c = same_reported _ _ _ c.in-Ok-false.ensures.reported.unfailed
 
-pub returns-in-Err-clause-told : goal.returns-in-Err-clause-told
-returns-in-Err-clause-told g c = fault_told _ _ _ c.in-Err.fault refl c.in-Err.ensures.told
+pub returns-in-Err-clause-reported : goal.returns-in-Err-clause-reported
+returns-in-Err-clause-reported g c = fault_reported _ _ _ c.in-Err.fault refl c.in-Err.ensures.reported
 
 pub returns-then-intake-most-clause-fault : goal.returns-then-intake-most-clause-fault
 returns-then-intake-most-clause-fault g c =
@@ -31,5 +31,5 @@ returns-in-Err-take_line-clause-fault g c =
     let ok = c.requires.possible in
     since_asked (g.met.L.NextLine.is_exact next ok) (λ x h. (g.met.L.NextLine.is_line next ok x h).0) (g.met.L.NextLine.is_some next ok) c.args.intake.now c.goes_on.new.self (g.I.Source.left c.args.input.now)
     (g.I.Source.left c.goes_on.new.input) (g.I.Source.left c.take_line.new.input) (c.args.most - c.args.intake.now.lines) (g.I.Source.faults c.args.input.now) (g.I.Source.faults c.goes_on.new.input)
-    (g.I.Source.faults c.take_line.new.input) c.in-Err-take_line.fault a c.in-Ok-true.ensures.told.unfailed (omega (arith, c.if-intake-most.false, a.0.1)) c.requires.room (λ x h. (g.met.L.NextLine.is_line next ok x h).1)
+    (g.I.Source.faults c.take_line.new.input) c.in-Err-take_line.fault a c.in-Ok-true.ensures.reported.unfailed (omega (arith, c.if-intake-most.false, a.0.1)) c.requires.room (λ x h. (g.met.L.NextLine.is_line next ok x h).1)
     c.in-Err-take_line.ensures.fault

@@ -2,7 +2,7 @@ use Rattle.std.proofs.Common.{◌≡◌, ◌⊎◌, ◌∙◌, ℕ, List, length
 use Rattle.std.proofs.KnownBytes.{Keeps-trans}
 use Rattle.exact_text.specs.Intake.{rest_of}
 use Rattle.exact_text.proofs.Stuck.{read_outcome, length_outcome, more_short, stuck_dead, stuck_cut, stuck_fault, Keeps-after}
-use Rattle.exact_text.proofs.Told.{same_told, fault_told}
+use Rattle.exact_text.proofs.Reported.{same_reported, fault_reported}
 use Rattle.exact_text.proofs.next_line.take_line.Goals as goal
 
 pub returns-in-Ok-clause-line : goal.returns-in-Ok-clause-line
@@ -56,18 +56,18 @@ loop-line-preserved g c =
       room = omega (arith, i.room, h.given, h.budget, ap length h.same_window, f.2);
       rest = Keeps-trans (rest_of c.args.intake.now (g.I.Source.left c.args.input.now)) (rest_of c.read.new.intake (g.I.Source.left c.loop-line.input)) (rest_of c.fill.new.self (g.I.Source.left c.fill.new.input)) (rw h.same_window i.rest) f.3;
       untouched = inr (first_said (g.L.NextLine.reads c.args.next.now) _ c.args.intake.now.window c.loop-line.intake.window i.untouched (rw c.in-Err-More.field-0-is at h.stop));
-      later = omega (arith, i.later, c.in-Ok-true.ensures.told.later);
-      unfailed = c.in-Ok-true.ensures.told.unfailed ∙ i.unfailed;
+      later = omega (arith, i.later, c.in-Ok-true.ensures.reported.later);
+      unfailed = c.in-Ok-true.ensures.reported.unfailed ∙ i.unfailed;
     }
 
-pub returns-in-Ok-clause-told : goal.returns-in-Ok-clause-told
-returns-in-Ok-clause-told g c = same_told _ _ _ c.loop-line.invariant.unfailed
+pub returns-in-Ok-clause-reported : goal.returns-in-Ok-clause-reported
+returns-in-Ok-clause-reported g c = same_reported _ _ _ c.loop-line.invariant.unfailed
 
-pub returns-in-Err-Dead-clause-told : goal.returns-in-Err-Dead-clause-told
-returns-in-Err-Dead-clause-told g c = same_told _ _ _ c.loop-line.invariant.unfailed
+pub returns-in-Err-Dead-clause-reported : goal.returns-in-Err-Dead-clause-reported
+returns-in-Err-Dead-clause-reported g c = same_reported _ _ _ c.loop-line.invariant.unfailed
 
-pub returns-in-Ok-false-clause-told : goal.returns-in-Ok-false-clause-told
-returns-in-Ok-false-clause-told g c = same_told _ _ _ (c.in-Ok-false.ensures.told.unfailed ∙ c.loop-line.invariant.unfailed)
+pub returns-in-Ok-false-clause-reported : goal.returns-in-Ok-false-clause-reported
+returns-in-Ok-false-clause-reported g c = same_reported _ _ _ (c.in-Ok-false.ensures.reported.unfailed ∙ c.loop-line.invariant.unfailed)
 
-pub returns-in-Err-clause-told : goal.returns-in-Err-clause-told
-returns-in-Err-clause-told g c = fault_told _ _ _ c.in-Err.fault c.loop-line.invariant.unfailed c.in-Err.ensures.told
+pub returns-in-Err-clause-reported : goal.returns-in-Err-clause-reported
+returns-in-Err-clause-reported g c = fault_reported _ _ _ c.in-Err.fault c.loop-line.invariant.unfailed c.in-Err.ensures.reported

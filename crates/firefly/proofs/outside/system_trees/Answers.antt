@@ -5,7 +5,7 @@ use Rattle.firefly.proofs.TreeLooks.{tells-more, fresh-more}
 use Rattle.firefly.proofs.outside.system_trees.Goals as goal
 
 pub loop-made-init : goal.loop-made-init
-loop-made-init g c = let none = c.new-trees.ensures.items in record { many = ap length none; told = rw none tt; fresh = rw none tt }
+loop-made-init g c = let none = c.new-trees.ensures.items in record { many = ap length none; reported = rw none tt; fresh = rw none tt }
 
 pub loop-made-preserved : goal.loop-made-preserved
 loop-made-preserved g c =
@@ -14,7 +14,7 @@ loop-made-preserved g c =
     let items = c.in-Ok-push.ensures.items in
     record {
       many = ap length items ∙ length_push trees _ ∙ ap (λ n. n + 1) was.many;
-      told = rw items (tells-more (λ t. unseen t.faults) None c.new.result refl trees was.told);
+      reported = rw items (tells-more (λ t. unseen t.faults) None c.new.result refl trees was.reported);
       fresh = rw items (fresh-more (λ t. unseen t.faults) c.new.result c.new.ensures trees was.fresh);
     }
 
@@ -25,4 +25,4 @@ pub returns-in_default-push : goal.returns-in_default-push
 returns-in_default-push g c = record { many = tt; agree = tt; fresh = tt }
 
 pub returns-clause-agree : goal.returns-clause-agree
-returns-clause-agree g c = (None, c.loop-made.invariant.told)
+returns-clause-agree g c = (None, c.loop-made.invariant.reported)

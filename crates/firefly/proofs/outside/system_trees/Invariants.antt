@@ -6,6 +6,6 @@ use Rattle.firefly.proofs.outside.system_trees.Given as goal
 abbrev pub invariant-loop-made : goal.invariant-loop-made
 invariant-loop-made g l = record {
   many : length l.trees.items ≡ l.made;
-  told : AllTell None (looks_of (λ t. unseen t.faults) l.trees.items);
+  reported : AllTell None (looks_of (λ t. unseen t.faults) l.trees.items);
   fresh : NoneFailed (looks_of (λ t. unseen t.faults) l.trees.items);
 }

@@ -15,26 +15,26 @@ named k l es trace same is has =
     subst (λ z. AllByRecursion (HasNames z) es) (sym same) (subst (λ z. AllByRecursion (HasNames l) z) events has.2)
 
 pub returns-in-Err-clause-printed : goal.returns-in-Err-clause-printed
-returns-in-Err-clause-printed g c = λ h told.
-    let events = same_some c.args.closed.now.trace c.in-Some.events.now h c.in-Some.ensures told in
+returns-in-Err-clause-printed g c = λ h reported.
+    let events = same_some c.args.closed.now.trace c.in-Some.events.now h c.in-Some.ensures reported in
     let P : List ℕ → Type 0 = λ text. AppendsPrefix (g.O.Sink.held c.args.out.now) (g.O.Sink.held c.print_whole.new.out) text in
     let prefix = under_names P c.layout.result c.args.closed.now.layout c.in-Some.events.now h c.args.values.now c.args.values.now c.layout.ensures events refl c.in-Err.ensures.err in
     inr (c.ends.ensures.status, (c.in-Err.ensures.cause.failed, prefix), c.ends.ensures.notes)
 
 pub returns-in-Ok-clause-printed : goal.returns-in-Ok-clause-printed
-returns-in-Ok-clause-printed g c = λ h told.
-    let events = same_some c.args.closed.now.trace c.in-Some.events.now h c.in-Some.ensures told in
+returns-in-Ok-clause-printed g c = λ h reported.
+    let events = same_some c.args.closed.now.trace c.in-Some.events.now h c.in-Some.ensures reported in
     let P : List ℕ → Type 0 = λ text. Appends (g.O.Sink.held c.args.out.now) (g.O.Sink.held c.print_whole.new.out) text in
     inl (refl, under_names P c.layout.result c.args.closed.now.layout c.in-Some.events.now h c.args.values.now c.args.values.now c.layout.ensures events refl c.in-Ok.ensures.ok, (refl, refl))
 
 pub returns-in-Ok-clause-reads : goal.returns-in-Ok-clause-reads
-returns-in-Ok-clause-reads g c = λ h told.
-    let events = same_some c.args.closed.now.trace c.in-Some.events.now h c.in-Some.ensures told in
+returns-in-Ok-clause-reads g c = λ h reported.
+    let events = same_some c.args.closed.now.trace c.in-Some.events.now h c.in-Some.ensures reported in
     reads_names c.layout.result c.args.closed.now.layout c.in-Some.events.now h (numbered 0 c.args.values.now) c.layout.ensures events c.print_whole.ensures.reads
 
 pub returns-in-Err-clause-reads : goal.returns-in-Err-clause-reads
-returns-in-Err-clause-reads g c = λ h told.
-    let events = same_some c.args.closed.now.trace c.in-Some.events.now h c.in-Some.ensures told in
+returns-in-Err-clause-reads g c = λ h reported.
+    let events = same_some c.args.closed.now.trace c.in-Some.events.now h c.in-Some.ensures reported in
     reads_names c.layout.result c.args.closed.now.layout c.in-Some.events.now h (numbered 0 c.args.values.now) c.layout.ensures events c.print_whole.ensures.reads
 
 pub print_whole-requires-clause-lawful : goal.print_whole-requires-clause-lawful

@@ -14,11 +14,11 @@ pub returns-in-Err-clause-answers : goal.returns-in-Err-clause-answers
 returns-in-Err-clause-answers g c =
     let input = change_of g.I.Source.left g.I.Source.faults c.args.input.now c.read_script.new.input in
     let out = change_of g.O.Sink.held g.O.Sink.faults c.args.out.now c.args.out.now in
-    let notes = change_of g.N.Sink.held g.N.Sink.faults c.args.notes.now c.refused.new.notes in
-    refused_answers input out notes c.in-Err.fault c.refused.result c.in-Err.ensures.fault (refl, refl) c.refused.ensures
+    let notes = change_of g.N.Sink.held g.N.Sink.faults c.args.notes.now c.status_of.new.notes in
+    refused_answers input out notes c.in-Err.fault c.status_of.result c.in-Err.ensures.fault (refl, refl) c.status_of.ensures
 
 pub returns-in-Err-clause-exact : goal.returns-in-Err-clause-exact
 returns-in-Err-clause-exact g c =
     let input = change_of g.I.Source.left g.I.Source.faults c.args.input.now c.read_script.new.input in
-    let notes = change_of g.N.Sink.held g.N.Sink.faults c.args.notes.now c.refused.new.notes in
-    refused_decides input notes c.in-Err.fault c.refused.result c.in-Err.ensures.fault c.refused.ensures
+    let notes = change_of g.N.Sink.held g.N.Sink.faults c.args.notes.now c.status_of.new.notes in
+    refused_decides input notes c.in-Err.fault c.status_of.result c.in-Err.ensures.fault c.status_of.ensures

@@ -12,7 +12,7 @@ pub returns-in-Ok-Check : goal.returns-in-Ok-Check
 returns-in-Ok-Check g c =
     record {
       usage = λ none. absurd (none _ c.in-Ok-Check.ensures.said);
-      answers = λ t says. let k = rw c.in-Ok-Check.field-0-is at c.in-Ok-Check.ensures in answered t _ _ _ (k.only t says) (c.run_check.ensures.answers, c.run_check.ensures.exact, c.run_check.ensures.told, refl);
+      answers = λ t says. let k = rw c.in-Ok-Check.field-0-is at c.in-Ok-Check.ensures in answered t _ _ _ (k.only t says) (c.run_check.ensures.answers, c.run_check.ensures.exact, c.run_check.ensures.reported, refl);
       kept = λ _. kept-same _ c.requires.agree;
       own = own-same _ c.requires.agree;
     }
@@ -21,7 +21,7 @@ pub returns-in-Ok-Run : goal.returns-in-Ok-Run
 returns-in-Ok-Run g c =
     record {
       usage = λ none. absurd (none _ c.in-Ok-Run.ensures.said);
-      answers = λ t says. let k = rw c.in-Ok-Run.field-0-is at c.in-Ok-Run.ensures in answered t _ _ _ (k.only t says) (c.run_input.ensures.answers, c.run_input.ensures.exact, c.run_input.ensures.told, refl);
+      answers = λ t says. let k = rw c.in-Ok-Run.field-0-is at c.in-Ok-Run.ensures in answered t _ _ _ (k.only t says) (c.run_input.ensures.answers, c.run_input.ensures.exact, c.run_input.ensures.reported, refl);
       kept = λ _. kept-same _ c.requires.agree;
       own = own-same _ c.requires.agree;
     }
@@ -57,7 +57,7 @@ pub returns-in-Ok-Order : goal.returns-in-Ok-Order
 returns-in-Ok-Order g c =
     record {
       usage = λ none. absurd (none _ c.in-Ok-Order.ensures.said);
-      answers = λ t says. let k = rw c.in-Ok-Order.field-0-is at c.in-Ok-Order.ensures in answered t _ _ _ (k.only t says) (c.run_order.ensures.answers, c.run_order.ensures.exact, c.run_order.ensures.told, refl);
+      answers = λ t says. let k = rw c.in-Ok-Order.field-0-is at c.in-Ok-Order.ensures in answered t _ _ _ (k.only t says) (c.run_order.ensures.answers, c.run_order.ensures.exact, c.run_order.ensures.reported, refl);
       kept = λ _. kept-same _ c.requires.agree;
       own = own-same _ c.requires.agree;
     }
@@ -66,7 +66,7 @@ pub returns-in-Ok-Jobs : goal.returns-in-Ok-Jobs
 returns-in-Ok-Jobs g c =
     record {
       usage = λ none. absurd (none _ c.in-Ok-Jobs.ensures.said);
-      answers = λ t says. let k = rw c.in-Ok-Jobs.field-0-is at c.in-Ok-Jobs.ensures in answered t _ _ _ (k.only t says) (c.run_jobs_command.ensures.answers, c.run_jobs_command.ensures.exact, c.run_jobs_command.ensures.told, refl);
+      answers = λ t says. let k = rw c.in-Ok-Jobs.field-0-is at c.in-Ok-Jobs.ensures in answered t _ _ _ (k.only t says) (c.run_jobs_command.ensures.answers, c.run_jobs_command.ensures.exact, c.run_jobs_command.ensures.reported, refl);
       kept = λ _. kept-same _ c.requires.agree;
       own = own-same _ c.requires.agree;
     }
@@ -81,7 +81,7 @@ pub returns-in-Ok-Find : goal.returns-in-Ok-Find
 returns-in-Ok-Find g c =
     record {
       usage = λ none. absurd (none _ c.in-Ok-Find.ensures.said);
-      answers = λ t says. let k = rw c.in-Ok-Find.field-0-is at c.in-Ok-Find.ensures in answered t _ _ _ (k.only t says) (c.run_find.ensures.answers, c.run_find.ensures.exact, c.run_find.ensures.told, refl);
+      answers = λ t says. let k = rw c.in-Ok-Find.field-0-is at c.in-Ok-Find.ensures in answered t _ _ _ (k.only t says) (c.run_find.ensures.answers, c.run_find.ensures.exact, c.run_find.ensures.reported, refl);
       kept = λ _. kept-same _ c.requires.agree;
       own = own-same _ c.requires.agree;
     }

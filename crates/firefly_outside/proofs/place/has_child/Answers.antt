@@ -3,7 +3,7 @@ use Rattle.std.proofs.lemmas.Bool.{eqb-true, false≢true}
 use Rattle.std.specs.Option.{option_map}
 use Rattle.std.specs.Prelude.{◌==◌}
 use Rattle.firefly_outside.specs.Trees.{Path, Directory}
-use Rattle.firefly_outside.specs.MemTrees.{told_by, node_of}
+use Rattle.firefly_outside.specs.MemTrees.{reported_by, node_of}
 use Rattle.firefly_outside.proofs.place.has_child.Goals as goal
 
 none_before : (n : ℕ) → true ≡ (n == 0) → 0 < n → ⊥
@@ -18,6 +18,6 @@ returns-then-is_empty c = ((λ yes. absurd (false≢true yes)), (λ k. absurd (n
 
 pub returns-in-Some-Dir : goal.returns-in-Some-Dir
 returns-in-Some-Dir c =
-    let here : told_by c.args.places.now c.in_ok-dir.dir ≡ Some (Directory c.in-Some-Dir.field-0-0.items) = sym (ap (option_map node_of) c.in-Some-Dir.ensures.value) ∙ ap (λ p. Some (node_of p)) c.in-Some-Dir.field-0-is in
-    let P : Path → Type 0 = λ p. told_by c.args.places.now p ≡ Some (Directory c.in-Some-Dir.field-0-0.items) in
+    let here : reported_by c.args.places.now c.in_ok-dir.dir ≡ Some (Directory c.in-Some-Dir.field-0-0.items) = sym (ap (option_map node_of) c.in-Some-Dir.ensures.value) ∙ ap (λ p. Some (node_of p)) c.in-Some-Dir.field-0-is in
+    let P : Path → Type 0 = λ p. reported_by c.args.places.now p ≡ Some (Directory c.in-Some-Dir.field-0-0.items) in
     ((λ yes. (some_before (length c.args.name.now) c.if-is_empty.ensures, (c.in-Some-Dir.field-0-0.items, subst P c.in_ok-dir.ensures here))), (λ k. refl))

@@ -3,16 +3,16 @@ use Rattle.std.specs.Prelude.{All, None, Option}
 use Rattle.std.specs.Vec.Iter.{into_iter_items}
 use Rattle.std.proofs.lemmas.List.Elements.{All-head, All-nil, All-tail}
 use Rattle.std.proofs.lemmas.List.Sorted.{All-permutation, IsPermutation-sym}
-use Rattle.firefly_outside.specs.Trees.{Told}
+use Rattle.firefly_outside.specs.Trees.{Contents}
 use Rattle.index_findings.specs.declared.read_files.ReadFile.{ReadFile}
 use Rattle.index_findings.specs.ReadFiles.{AreRead, IsRead, IsReadAt}
 use Rattle.index_findings.specs.Pieces.{IsFilesPiece}
-use Rattle.index_findings.proofs.CoverLaws.{all_covered, none_covered, none_told, read_sorted, turn_covered}
+use Rattle.index_findings.proofs.CoverLaws.{all_covered, none_covered, none_reported, read_sorted, turn_covered}
 use Rattle.index_findings.proofs.ReadFileLaws.{holds_none}
 use Rattle.index_findings.proofs.OnceLaws.{next_fresh, once_first, once_turn, paths_read, read_once_sorted}
 use Rattle.index_findings.proofs.read_files.pieces_of.Goals as goal
 
-abbrev Read : Option Told → ReadFile → Type 0
+abbrev Read : Option Contents → ReadFile → Type 0
 Read o r = IsRead o r.path r.file
 
 pub loop-read-init : goal.loop-read-init
@@ -39,7 +39,7 @@ loop-read-preserved c =
     let short = ap length steps in
     let added = c.in_ok-batch.ensures in
     let all = into_iter_items c.into_iter-read-iterator.result in
-    let held = (was.files None (none_told all)).1 in
+    let held = (was.files None (none_reported all)).1 in
     record {
       files = λ o read.
           let h = was.files o read in
@@ -69,7 +69,7 @@ returns-clause-covers c = λ path.
     let same = c.sort_by.ensures.permutation in
     let all = into_iter_items c.into_iter-read-iterator.result in
     let left = into_iter_items at.read-iterator in
-    let held = (at.invariant.files None (none_told all)).1 in
+    let held = (at.invariant.files None (none_reported all)).1 in
     let covered = all_covered root path all left at.pieces.items c.put_batch.new.pieces.items at.batch (sym at.invariant.left ∙ c.in-None.ensures.steps.0) (at.invariant.covers path)
     (c.in_ok-put_batch.ensures.covers held.files held.holds path) in (
       (λ h. read_sorted root path sorted c.args.loaded.items (IsPermutation-sym c.args.loaded.items sorted same) (subst (λ (l : List ReadFile). IsReadAt root l path) gives (covered.0 h))),
@@ -81,6 +81,6 @@ returns-clause-apart c = λ once.
     let at = c.loop-read in
     let gives = c.into_iter-read-iterator.ensures.into_iter_gives.0 in
     let all = into_iter_items c.into_iter-read-iterator.result in
-    let held = (at.invariant.files None (none_told all)).1 in
+    let held = (at.invariant.files None (none_reported all)).1 in
     let sorted = subst (λ (l : List ReadFile). AllPairs (λ p q. p ≢ q) (paths_read l)) (sym gives) (read_once_sorted c.args.loaded.items c.sort_by.new.self.items c.sort_by.ensures.permutation once) in
     c.in_ok-put_batch.ensures.apart held.files held.holds (at.invariant.once sorted).held

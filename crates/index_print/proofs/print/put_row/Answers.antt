@@ -10,26 +10,26 @@ use Rattle.index_print.proofs.print.put_row.Goals as goal
 
 pub returns-in_err-put_word-clause-text : goal.returns-in_err-put_word-clause-text
 returns-in_err-put_word-clause-text g c =
-    let told = g.O.Sink.held c.args.out.now in
+    let reported = g.O.Sink.held c.args.out.now in
     let held = c.args.held.now.items in
     let row = row_at c.args.piece.now c.args.at in
-    rw (← ends_moved (word_start row) row.hits) (puts_failed c.from_residual.result told _ held _ _ c.from_residual.ensures.0
-    (prefix_of_three told _ held (word_start row) (flat_map hit_after row.hits) newline c.in_err-put_word.ensures.text))
+    rw (← ends_moved (word_start row) row.hits) (puts_failed c.from_residual.result reported _ held _ _ c.from_residual.ensures.0
+    (prefix_of_three reported _ held (word_start row) (flat_map hit_after row.hits) newline c.in_err-put_word.ensures.text))
 
 pub returns-in_err-put_hits-clause-text : goal.returns-in_err-put_hits-clause-text
 returns-in_err-put_hits-clause-text g c =
-    let told = g.O.Sink.held c.args.out.now in
+    let reported = g.O.Sink.held c.args.out.now in
     let held = c.args.held.now.items in
     let row = row_at c.args.piece.now c.args.at in
-    rw (← ends_moved (word_start row) row.hits) (puts_failed c.from_residual-in_err-put_hits.result told _ held _ _ c.from_residual-in_err-put_hits.ensures.0
-    (prefix_of_two told _ held (word_start row ++ flat_map hit_after row.hits) newline
-    (fails_then told _ _ held _ (word_start row) (flat_map hit_after row.hits) c.in_ok-put_word.ensures.text c.in_err-put_hits.ensures.text)))
+    rw (← ends_moved (word_start row) row.hits) (puts_failed c.from_residual-in_err-put_hits.result reported _ held _ _ c.from_residual-in_err-put_hits.ensures.0
+    (prefix_of_two reported _ held (word_start row ++ flat_map hit_after row.hits) newline
+    (fails_then reported _ _ held _ (word_start row) (flat_map hit_after row.hits) c.in_ok-put_word.ensures.text c.in_err-put_hits.ensures.text)))
 
 pub returns-clause-text : goal.returns-clause-text
 returns-clause-text g c =
-    let told = g.O.Sink.held c.args.out.now in
+    let reported = g.O.Sink.held c.args.out.now in
     let held = c.args.held.now.items in
     let row = row_at c.args.piece.now c.args.at in
     rw (← ends_moved (word_start row) row.hits)
-    (puts_then c.put.result told _ _ held _ _ (word_start row ++ flat_map hit_after row.hits) newline
-    (sends_then told _ _ held _ _ (word_start row) (flat_map hit_after row.hits) c.in_ok-put_word.ensures.text c.in_ok-put_hits.ensures.text) c.put.ensures.text)
+    (puts_then c.put.result reported _ _ held _ _ (word_start row ++ flat_map hit_after row.hits) newline
+    (sends_then reported _ _ held _ _ (word_start row) (flat_map hit_after row.hits) c.in_ok-put_word.ensures.text c.in_ok-put_hits.ensures.text) c.put.ensures.text)

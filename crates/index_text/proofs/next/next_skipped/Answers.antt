@@ -1,7 +1,7 @@
 use Rattle.std.specs.Option.{option_copied}
 use Rattle.std.proofs.Common.{arith, ap}
 use Rattle.exact_text.specs.declared.intake.Intake.{Intake}
-use Rattle.exact_text.proofs.Told.{same_told, fault_told}
+use Rattle.exact_text.proofs.Reported.{same_reported, fault_reported}
 use Rattle.index_text.specs.Next.{SaysPath}
 use Rattle.index_text.proofs.LineCodes.{skipped_code}
 use Rattle.index_text.proofs.Stopping.{waits, waits_on, line_taken, line_stuck}
@@ -14,21 +14,21 @@ pub returns-in-Ok-clause-taken : goal.returns-in-Ok-clause-taken
 returns-in-Ok-clause-taken g c =
     line_taken c.loop-stop.invariant (skipped_code (option_copied c.args.last) c.requires) (SaysPath c.try_skipped.new.out.items) c.try_skipped.new.intake tt c.in-Ok.ensures (g.I.Source.faults c.loop-stop.input)
 
-pub returns-in-Ok-clause-told : goal.returns-in-Ok-clause-told
-returns-in-Ok-clause-told g c = same_told _ _ _ c.loop-stop.invariant.unfailed
+pub returns-in-Ok-clause-reported : goal.returns-in-Ok-clause-reported
+returns-in-Ok-clause-reported g c = same_reported _ _ _ c.loop-stop.invariant.unfailed
 
 pub returns-in-Err-after_stop-clause-taken : goal.returns-in-Err-after_stop-clause-taken
 returns-in-Err-after_stop-clause-taken g c =
     line_stuck c.loop-stop.invariant (skipped_code (option_copied c.args.last) c.requires) (SaysPath c.try_skipped.new.out.items) c.try_skipped.new.intake c.after_stop.new.intake (g.I.Source.left c.after_stop.new.input) (g.I.Source.faults c.after_stop.new.input)
     c.in-Err.stop c.in-Err-after_stop.fault c.in-Err.ensures.0 c.in-Err.ensures.1 c.in-Err-after_stop.ensures.goes_on
 
-pub returns-in-Err-after_stop-clause-told : goal.returns-in-Err-after_stop-clause-told
-returns-in-Err-after_stop-clause-told g c = fault_told _ _ _ c.in-Err-after_stop.fault c.loop-stop.invariant.unfailed c.in-Err-after_stop.ensures.told
+pub returns-in-Err-after_stop-clause-reported : goal.returns-in-Err-after_stop-clause-reported
+returns-in-Err-after_stop-clause-reported g c = fault_reported _ _ _ c.in-Err-after_stop.fault c.loop-stop.invariant.unfailed c.in-Err-after_stop.ensures.reported
 
 pub loop-stop-preserved : goal.loop-stop-preserved
 loop-stop-preserved g c =
     waits_on c.loop-stop.invariant c.try_skipped.new.intake c.after_stop.new.intake (g.I.Source.left c.after_stop.new.input) (g.I.Source.faults c.after_stop.new.input) c.in-Err.stop c.in-Err.ensures.1
-    c.in-Ok-after_stop.ensures.goes_on c.in-Ok-after_stop.ensures.told.unfailed
+    c.in-Ok-after_stop.ensures.goes_on c.in-Ok-after_stop.ensures.reported.unfailed
 
 pub loop-stop-smaller : goal.loop-stop-smaller
 loop-stop-smaller g c =

@@ -1,5 +1,5 @@
 use Rattle.std.proofs.Common.{◌∙◌, refl}
-use Rattle.exact_text.proofs.Told.{same_told, fault_told}
+use Rattle.exact_text.proofs.Reported.{same_reported, fault_reported}
 use Rattle.index_text.proofs.Ordered.{ordered_rows}
 use Rattle.index_text.proofs.Wholes.{first_fault, text_fault, all_read}
 use Rattle.index_text.proofs.read.read_index_within.Goals as goal
@@ -9,8 +9,8 @@ returns-in-Err-clause-fault g c =
     let n = c.new-intake.ensures in
     first_fault c.new-intake.result (g.I.Source.left c.args.input.now) c.args.most n.rest n.given n.budget n.lines c.fill.new.self (g.I.Source.left c.fill.new.input) (g.I.Source.faults c.args.input.now) (g.I.Source.faults c.fill.new.input) c.in-Err.fault c.in-Err.ensures.filled
 
-pub returns-in-Err-clause-told : goal.returns-in-Err-clause-told
-returns-in-Err-clause-told g c = fault_told _ _ _ c.in-Err.fault refl c.in-Err.ensures.told
+pub returns-in-Err-clause-reported : goal.returns-in-Err-clause-reported
+returns-in-Err-clause-reported g c = fault_reported _ _ _ c.in-Err.fault refl c.in-Err.ensures.reported
 
 pub finish-requires-clause-ended : goal.finish-requires-clause-ended
 finish-requires-clause-ended g c = c.in-Ok-take_rows.ensures.taken.2
@@ -30,14 +30,14 @@ returns-in-Ok-finish-clause-index g c =
 pub returns-in-Ok-finish-clause-end : goal.returns-in-Ok-finish-clause-end
 returns-in-Ok-finish-clause-end g c = c.in-Ok-take_rows.ensures.taken.3.end
 
-pub returns-in-Ok-finish-clause-told : goal.returns-in-Ok-finish-clause-told
-returns-in-Ok-finish-clause-told g c = same_told _ _ _ (c.in-Ok-take_rows.ensures.told.unfailed ∙ c.in-Ok.ensures.told.unfailed)
+pub returns-in-Ok-finish-clause-reported : goal.returns-in-Ok-finish-clause-reported
+returns-in-Ok-finish-clause-reported g c = same_reported _ _ _ (c.in-Ok-take_rows.ensures.reported.unfailed ∙ c.in-Ok.ensures.reported.unfailed)
 
 pub returns-clause-fault : goal.returns-clause-fault
 returns-clause-fault g c =
     let n = c.new-intake.ensures in
     text_fault c.new-intake.result (g.I.Source.left c.args.input.now) c.args.most n.rest n.given n.budget n.lines c.fill.new.self (g.I.Source.left c.fill.new.input) (g.I.Source.left c.take_rows.new.input) (g.I.Source.faults c.args.input.now) (g.I.Source.faults c.fill.new.input)
-    c.in-Ok.field-0 c.in-Ok.ensures.filled (g.I.Source.faults c.take_rows.new.input) c.in-Err-take_rows.fault c.in-Ok.ensures.told.unfailed c.in-Err-take_rows.ensures.taken
+    c.in-Ok.field-0 c.in-Ok.ensures.filled (g.I.Source.faults c.take_rows.new.input) c.in-Err-take_rows.fault c.in-Ok.ensures.reported.unfailed c.in-Err-take_rows.ensures.taken
 
-pub returns-clause-told : goal.returns-clause-told
-returns-clause-told g c = fault_told _ _ _ c.in-Err-take_rows.fault c.in-Ok.ensures.told.unfailed c.in-Err-take_rows.ensures.told
+pub returns-clause-reported : goal.returns-clause-reported
+returns-clause-reported g c = fault_reported _ _ _ c.in-Err-take_rows.fault c.in-Ok.ensures.reported.unfailed c.in-Err-take_rows.ensures.reported

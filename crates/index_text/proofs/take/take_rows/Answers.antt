@@ -2,7 +2,7 @@ use Rattle.std.proofs.Common.{◌≡◌, ◌∙◌, ◌∷◌, ◌++◌, [], Lis
 use Rattle.std.specs.Option.{option_copied}
 use Rattle.exact_text.specs.Exact.{IsStuck, OrMemory}
 use Rattle.exact_text.specs.Intake.{rest_of, room_of}
-use Rattle.exact_text.proofs.Told.{same_told, fault_told, then_told}
+use Rattle.exact_text.proofs.Reported.{same_reported, fault_reported, then_reported}
 use Rattle.index_text.specs.declared.lines.Prefix.TheVariants as prefixes
 use Rattle.index_text.specs.Lines.{heading_at}
 use Rattle.index_text.specs.Next.{IsLast}
@@ -17,16 +17,16 @@ pub returns-in-Ok-false-clause-taken : goal.returns-in-Ok-false-clause-taken
 returns-in-Ok-false-clause-taken g c =
     rows_end c.loop-fault.invariant.taken c.goes_on.new.self (g.I.Source.left c.goes_on.new.input) (g.I.Source.faults c.loop-fault.input) (g.I.Source.faults c.goes_on.new.input) (g.I.Source.faults c.args.input.now) (g.I.Source.faults c.goes_on.new.input) (rw c.in-Ok-false.field-0-test at c.in-Ok-false.ensures.asked)
 
-pub returns-in-Ok-false-clause-told : goal.returns-in-Ok-false-clause-told
-returns-in-Ok-false-clause-told g c = same_told _ _ _ (c.in-Ok-false.ensures.told.unfailed ∙ c.loop-fault.invariant.unfailed)
+pub returns-in-Ok-false-clause-reported : goal.returns-in-Ok-false-clause-reported
+returns-in-Ok-false-clause-reported g c = same_reported _ _ _ (c.in-Ok-false.ensures.reported.unfailed ∙ c.loop-fault.invariant.unfailed)
 
 pub returns-in-Err-clause-taken : goal.returns-in-Err-clause-taken
 returns-in-Err-clause-taken g c =
     let i = c.loop-fault.invariant in
     rows_asked i.taken c.goes_on.new.self (g.I.Source.left c.goes_on.new.input) (g.I.Source.faults c.args.input.now) (g.I.Source.faults c.loop-fault.input) (g.I.Source.faults c.goes_on.new.input) c.in-Err.fault c.in-Err.ensures.asked i.unfailed
 
-pub returns-in-Err-clause-told : goal.returns-in-Err-clause-told
-returns-in-Err-clause-told g c = fault_told _ _ _ c.in-Err.fault c.loop-fault.invariant.unfailed c.in-Err.ensures.told
+pub returns-in-Err-clause-reported : goal.returns-in-Err-clause-reported
+returns-in-Err-clause-reported g c = fault_reported _ _ _ c.in-Err.fault c.loop-fault.invariant.unfailed c.in-Err.ensures.reported
 
 pub next_heading-requires : goal.next_heading-requires
 next_heading-requires g c = subst IsLast (sym c.last_word.ensures) (last_ok c.loop-fault.invariant.taken)
@@ -49,12 +49,12 @@ returns-in-Err-take_row-clause-taken g c =
     let asked = rw c.in-Ok-true.field-0-test at c.in-Ok-true.ensures.asked in
     let h = heading_now (option_copied c.last_word.result) c.loop-fault.draft c.goes_on.new.self c.next_heading.new.intake (g.I.Source.left c.goes_on.new.input) (g.I.Source.left c.next_heading.new.input) (g.I.Source.faults c.goes_on.new.input) (g.I.Source.faults c.next_heading.new.input) name (prefixes.Word c.in-Ok-Word.many) c.last_word.ensures (rw c.in-Ok-Word.field-0-is at c.in-Ok-Word.ensures.taken) in
     row_stop t c.goes_on.new.self c.next_heading.new.intake (g.I.Source.left c.goes_on.new.input) (g.I.Source.left c.next_heading.new.input) (g.I.Source.faults c.loop-fault.input) (g.I.Source.faults c.goes_on.new.input) asked name h.0 h.2 h.3 c.in-Ok-Word.many h.1 c.take_row.new.draft c.take_row.new.intake (g.I.Source.left c.take_row.new.input) (g.I.Source.faults c.args.input.now) (g.I.Source.faults c.next_heading.new.input) (g.I.Source.faults c.take_row.new.input) c.in-Err-take_row.fault
-    (c.in-Ok-Word.ensures.told.unfailed ∙ (c.in-Ok-true.ensures.told.unfailed ∙ c.loop-fault.invariant.unfailed))
+    (c.in-Ok-Word.ensures.reported.unfailed ∙ (c.in-Ok-true.ensures.reported.unfailed ∙ c.loop-fault.invariant.unfailed))
     (λ n e. subst (λ (w : List ℕ). TakesRow w n c.loop-fault.draft c.take_row.new.draft c.next_heading.new.intake c.take_row.new.intake (g.I.Source.left c.next_heading.new.input) (g.I.Source.left c.take_row.new.input) (g.I.Source.faults c.next_heading.new.input) (g.I.Source.faults c.take_row.new.input) (Err c.in-Err-take_row.fault)) c.as_slice.ensures.value (c.in-Err-take_row.ensures.taken n e))
 
-pub returns-in-Err-take_row-clause-told : goal.returns-in-Err-take_row-clause-told
-returns-in-Err-take_row-clause-told g c =
-    fault_told _ _ _ c.in-Err-take_row.fault (c.in-Ok-Word.ensures.told.unfailed ∙ (c.in-Ok-true.ensures.told.unfailed ∙ c.loop-fault.invariant.unfailed)) c.in-Err-take_row.ensures.told
+pub returns-in-Err-take_row-clause-reported : goal.returns-in-Err-take_row-clause-reported
+returns-in-Err-take_row-clause-reported g c =
+    fault_reported _ _ _ c.in-Err-take_row.fault (c.in-Ok-Word.ensures.reported.unfailed ∙ (c.in-Ok-true.ensures.reported.unfailed ∙ c.loop-fault.invariant.unfailed)) c.in-Err-take_row.ensures.reported
 
 pub loop-fault-preserved : goal.loop-fault-preserved
 loop-fault-preserved g c =
@@ -65,7 +65,7 @@ loop-fault-preserved g c =
     record {
       taken = rows_next t c.goes_on.new.self c.next_heading.new.intake (g.I.Source.left c.goes_on.new.input) (g.I.Source.left c.next_heading.new.input) (g.I.Source.faults c.loop-fault.input) (g.I.Source.faults c.goes_on.new.input) asked name h.0 h.2 h.3 c.in-Ok-Word.many h.1 c.take_row.new.draft c.take_row.new.intake (g.I.Source.left c.take_row.new.input) (g.I.Source.faults c.next_heading.new.input) (g.I.Source.faults c.take_row.new.input)
           (λ n e. subst (λ (w : List ℕ). TakesRow w n c.loop-fault.draft c.take_row.new.draft c.next_heading.new.intake c.take_row.new.intake (g.I.Source.left c.next_heading.new.input) (g.I.Source.left c.take_row.new.input) (g.I.Source.faults c.next_heading.new.input) (g.I.Source.faults c.take_row.new.input) (Ok tt)) c.as_slice.ensures.value (c.in-Ok.ensures.taken n e));
-      unfailed = c.in-Ok.ensures.told.unfailed ∙ (c.in-Ok-Word.ensures.told.unfailed ∙ (c.in-Ok-true.ensures.told.unfailed ∙ c.loop-fault.invariant.unfailed));
+      unfailed = c.in-Ok.ensures.reported.unfailed ∙ (c.in-Ok-Word.ensures.reported.unfailed ∙ (c.in-Ok-true.ensures.reported.unfailed ∙ c.loop-fault.invariant.unfailed));
     }
 
 pub loop-fault-smaller : goal.loop-fault-smaller
@@ -94,18 +94,18 @@ returns-in-Ok-Skipped-clause-taken g c =
     let h = heading_now (option_copied c.last_word.result) c.loop-fault.draft c.goes_on.new.self c.next_heading.new.intake (g.I.Source.left c.goes_on.new.input) (g.I.Source.left c.next_heading.new.input) (g.I.Source.faults c.goes_on.new.input) (g.I.Source.faults c.next_heading.new.input) name prefixes.Skipped c.last_word.ensures (rw c.in-Ok-Skipped.field-0-is at c.in-Ok-Skipped.ensures.taken) in
     let m = subst (λ (p : List ℕ). c.add_skipped.new.draft ≡ record c.loop-fault.draft { skipped = c.loop-fault.draft.skipped ++ p ∷ [] }) c.deref.ensures.value c.in-Ok-add_skipped.ensures in
     rows_last t c.goes_on.new.self c.next_heading.new.intake (g.I.Source.left c.goes_on.new.input) (g.I.Source.left c.next_heading.new.input) (g.I.Source.faults c.loop-fault.input) (g.I.Source.faults c.goes_on.new.input) asked name h.0 h.2 h.3 h.1 c.add_skipped.new.draft m c.take_paths.new.draft c.take_paths.new.intake (g.I.Source.left c.take_paths.new.input) (g.I.Source.faults c.args.input.now) (g.I.Source.faults c.next_heading.new.input) (g.I.Source.faults c.take_paths.new.input) c.take_paths.result
-    (c.in-Ok-Skipped.ensures.told.unfailed ∙ (c.in-Ok-true.ensures.told.unfailed ∙ c.loop-fault.invariant.unfailed)) c.take_paths.ensures.taken
+    (c.in-Ok-Skipped.ensures.reported.unfailed ∙ (c.in-Ok-true.ensures.reported.unfailed ∙ c.loop-fault.invariant.unfailed)) c.take_paths.ensures.taken
 
-pub returns-in-Ok-Skipped-clause-told : goal.returns-in-Ok-Skipped-clause-told
-returns-in-Ok-Skipped-clause-told g c =
-    then_told _ _ _ c.take_paths.result (c.in-Ok-Skipped.ensures.told.unfailed ∙ (c.in-Ok-true.ensures.told.unfailed ∙ c.loop-fault.invariant.unfailed)) c.take_paths.ensures.told
+pub returns-in-Ok-Skipped-clause-reported : goal.returns-in-Ok-Skipped-clause-reported
+returns-in-Ok-Skipped-clause-reported g c =
+    then_reported _ _ _ c.take_paths.result (c.in-Ok-Skipped.ensures.reported.unfailed ∙ (c.in-Ok-true.ensures.reported.unfailed ∙ c.loop-fault.invariant.unfailed)) c.take_paths.ensures.reported
 
 pub returns-in-Err-next_heading-clause-taken : goal.returns-in-Err-next_heading-clause-taken
 returns-in-Err-next_heading-clause-taken g c =
     let i = c.loop-fault.invariant in
     let asked = rw c.in-Ok-true.field-0-test at c.in-Ok-true.ensures.asked in
     let h = subst (λ (l : Option (List ℕ)). OrMemory (IsStuck (heading_at l) c.goes_on.new.self.lines (room_of c.goes_on.new.self) (rest_of c.goes_on.new.self (g.I.Source.left c.goes_on.new.input)) (g.I.Source.left c.next_heading.new.input) (g.I.Source.faults c.goes_on.new.input) (g.I.Source.faults c.next_heading.new.input)) c.in-Err-next_heading.fault) c.last_word.ensures c.in-Err-next_heading.ensures.taken in
-    rows_stop i.taken c.goes_on.new.self (g.I.Source.left c.goes_on.new.input) (g.I.Source.left c.next_heading.new.input) (g.I.Source.faults c.args.input.now) (g.I.Source.faults c.loop-fault.input) (g.I.Source.faults c.goes_on.new.input) (g.I.Source.faults c.next_heading.new.input) c.in-Err-next_heading.fault asked i.unfailed c.in-Ok-true.ensures.told.unfailed h
+    rows_stop i.taken c.goes_on.new.self (g.I.Source.left c.goes_on.new.input) (g.I.Source.left c.next_heading.new.input) (g.I.Source.faults c.args.input.now) (g.I.Source.faults c.loop-fault.input) (g.I.Source.faults c.goes_on.new.input) (g.I.Source.faults c.next_heading.new.input) c.in-Err-next_heading.fault asked i.unfailed c.in-Ok-true.ensures.reported.unfailed h
 
-pub returns-in-Err-next_heading-clause-told : goal.returns-in-Err-next_heading-clause-told
-returns-in-Err-next_heading-clause-told g c = fault_told _ _ _ c.in-Err-next_heading.fault (c.in-Ok-true.ensures.told.unfailed ∙ c.loop-fault.invariant.unfailed) c.in-Err-next_heading.ensures.told
+pub returns-in-Err-next_heading-clause-reported : goal.returns-in-Err-next_heading-clause-reported
+returns-in-Err-next_heading-clause-reported g c = fault_reported _ _ _ c.in-Err-next_heading.fault (c.in-Ok-true.ensures.reported.unfailed ∙ c.loop-fault.invariant.unfailed) c.in-Err-next_heading.ensures.reported

@@ -23,13 +23,13 @@ loop-t-preserved g c =
     let own = c.number.ensures ∙ was.number in
     elim c.if-t-number.branch [
       | then-t-number w ↦
-          let told = w.alert.ensures in
+          let recorded = w.alert.ensures in
           let e = w.alert.new.me in
-          let moved = moved_on p [] [] [] [] a b e was.moved (called_still p b e told.idle told.share) in
+          let moved = moved_on p [] [] [] [] a b e was.moved (called_still p b e recorded.idle recorded.share) in
           record {
             moved = subst (λ m. HasMoved p [] [] a m) (sym w.me-is) moved;
-            number = subst (λ m. m.number ≡ a.number) (sym w.me-is) (told.same.number ∙ was.number);
-            alerts = subst (λ m. Added (alerts_by a.number (t + 1)) a m) (sym w.me-is) (alerted a.number t a b e (λ same. w.if-t-number.true (same ∙ sym own)) was.number was.alerts told.event);
+            number = subst (λ m. m.number ≡ a.number) (sym w.me-is) (recorded.same.number ∙ was.number);
+            alerts = subst (λ m. Added (alerts_by a.number (t + 1)) a m) (sym w.me-is) (alerted a.number t a b e (λ same. w.if-t-number.true (same ∙ sym own)) was.number was.alerts recorded.event);
           }
       | else-t-number w ↦ record {
         moved = subst (λ m. HasMoved p [] [] a m) (sym w.me-is) was.moved;

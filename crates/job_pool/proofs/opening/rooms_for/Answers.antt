@@ -9,7 +9,7 @@ more_none (suc n) x =
     ap (λ l. x ∷ l) (more_none n x) ∙ ap (λ k. replicate k x) one
 
 pub loop-made-init : goal.loop-made-init
-loop-made-init g c = record { none = c.in_ok-row.ensures.items; wide = c.in_ok-row.ensures.capacity }
+loop-made-init g c = record { none = c.in_ok-places.ensures.items; wide = c.in_ok-places.ensures.capacity }
 
 pub push_reserved-requires : goal.push_reserved-requires
 push_reserved-requires g c =
@@ -17,7 +17,7 @@ push_reserved-requires g c =
     let long = ap length was.none ∙ length-replicate c.loop-made.made None in
     let wide = was.wide in
     let low = c.loop-made-test.true in
-    let ok = c.loop-made.row.ok.0 in
+    let ok = c.loop-made.places.ok.0 in
     omega arith
 
 pub loop-made-preserved : goal.loop-made-preserved
@@ -29,8 +29,8 @@ loop-made-preserved g c =
       wide = (let wide = was.wide in let cap = push.capacity in omega arith);
     }
 
-pub returns-clause-row : goal.returns-clause-row
-returns-clause-row g c =
+pub returns-clause-places : goal.returns-clause-places
+returns-clause-places g c =
     let was = c.loop-made.invariant in
     let over = c.loop-made-test.false in
     was.none ∙ ap (λ n. replicate n None) (omega arith)

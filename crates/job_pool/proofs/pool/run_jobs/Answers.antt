@@ -33,8 +33,8 @@ join-slots-requires-clause-room g c κs within =
     let ok = c.args.jobs.ok.0 in
     omega arith
 
-pub parted-back-requires-clause-back : goal.parted-back-requires-clause-back
-parted-back-requires-clause-back g c κs within =
+pub split-back-requires-clause-back : goal.split-back-requires-clause-back
+split-back-requires-clause-back g c κs within =
     let joined = c.join-slots.result in
     let ok = joined.ok.0 in
     let items = ap length c.join-slots.ensures in
@@ -45,8 +45,8 @@ parted-back-requires-clause-back g c κs within =
     let wide = room.wide in
     record { empty = room.empty; wide = omega arith }
 
-pub parted-back-requires-clause-values : goal.parted-back-requires-clause-values
-parted-back-requires-clause-values g c κs within =
+pub split-back-requires-clause-values : goal.split-back-requires-clause-values
+split-back-requires-clause-values g c κs within =
     let joined = c.join-slots.result in
     let ok = joined.ok.0 in
     let items = ap length c.join-slots.ensures in
@@ -70,7 +70,7 @@ returns-in-Some g c =
     let long = zip_length (MayBeCalled state gives next) joined.items fin called in
     let ok = joined.ok.0 in
     let whole : take joined.len (fin ++ drop (length fin) joined.items) ≡ fin = whole_back joined.len fin joined.items long ok in
-    let back : c.parted-back.result.0.items ≡ map (λ s. s.job) fin = c.parted-back.ensures.back ∙ ap (map (λ s. s.job)) whole in
+    let back : c.split-back.result.0.items ≡ map (λ s. s.job) fin = c.split-back.ensures.back ∙ ap (map (λ s. s.job)) whole in
     subst (λ l. AreStopped state gives next c.in-Some.place jobs l) (sym back) (stopped state gives next c.in-Some.place jobs fin all c.in-Some.ensures.ends)
 
 pub returns-in-None : goal.returns-in-None
@@ -86,12 +86,12 @@ returns-in-None g c =
     let long = zip_length (MayBeCalled state gives next) joined.items fin called in
     let ok = joined.ok.0 in
     let whole : take joined.len (fin ++ drop (length fin) joined.items) ≡ fin = whole_back joined.len fin joined.items long ok in
-    let back : c.parted-back.result.0.items ≡ map (λ s. s.job) fin = c.parted-back.ensures.back ∙ ap (map (λ s. s.job)) whole in
-    let values = c.parted-back.result.1.items in
-    let gave = subst (λ l. AllByRecursion HasValue l → map (λ s. s.answer) l ≡ map (λ v. Some (Value v)) values) whole c.parted-back.ensures.values in
+    let back : c.split-back.result.0.items ≡ map (λ s. s.job) fin = c.split-back.ensures.back ∙ ap (map (λ s. s.job)) whole in
+    let values = c.split-back.result.1.items in
+    let gave = subst (λ l. AllByRecursion HasValue l → map (λ s. s.answer) l ≡ map (λ v. Some (Value v)) values) whole c.split-back.ensures.values in
     subst (λ l. AreDone state gives next jobs values l) (sym back) (done state gives next jobs fin values all c.in-None.ensures.ends (gave c.in-None.ensures.ends))
 
 pub returns-in-Err : goal.returns-in-Err
 returns-in-Err g c =
     let slots = c.join.ensures ∙ (ap (λ v. slots_of v.items) c.in-Err.ensures.back ∙ c.cut-batches.ensures.slots) in
-    c.parted-back-in-Err.ensures.back ∙ (ap (map (λ s. s.job)) slots ∙ jobs_of_fresh c.args.jobs.items)
+    c.split-back-in-Err.ensures.back ∙ (ap (map (λ s. s.job)) slots ∙ jobs_of_fresh c.args.jobs.items)

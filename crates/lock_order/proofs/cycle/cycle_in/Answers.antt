@@ -1,5 +1,5 @@
 use Rattle.std.proofs.Common.{◌≡◌, sym, subst, rules}
-use Rattle.lock_order.specs.Order.{first_or, TellsCycle}
+use Rattle.lock_order.specs.Order.{first_or, ReportsCycle}
 use Rattle.lock_order.specs.Circles.{links}
 use Rattle.lock_order.proofs.Events.{not_itself}
 use Rattle.lock_order.proofs.Linked.{tells, kept_cycle}
@@ -15,5 +15,5 @@ returns c = λ es now kept.
     let k = c.args.graph.now in
     let ms = c.turn.new.circle.items in
     let cycle = is_cycle k ms (λ m b. not_itself kept.version es now m _ _ kept.run (kept.edge m m b)) c.turn.ensures.circle in
-    let told : c.cycle_of.result ≡ links k ms (first_or 0 ms) = subst (λ l. c.cycle_of.result ≡ links k l (first_or 0 l)) c.as_slice.ensures.value c.cycle_of.ensures in
-    subst (TellsCycle es) (sym told) (tells es now k ms kept cycle c.turn.ensures.least)
+    let reported : c.cycle_of.result ≡ links k ms (first_or 0 ms) = subst (λ l. c.cycle_of.result ≡ links k l (first_or 0 l)) c.as_slice.ensures.value c.cycle_of.ensures in
+    subst (ReportsCycle es) (sym reported) (tells es now k ms kept cycle c.turn.ensures.least)

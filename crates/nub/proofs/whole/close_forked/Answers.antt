@@ -23,8 +23,8 @@ close_forked-values-requires-clause-all g c κs within = λ i low.
     let a = c.requires.all i low in
     (a.0, ap (λ ts. with_number i ts) both ∙ a.1)
 
-pub history-told-requires : goal.history-told-requires
-history-told-requires g c = λ traced.
+pub history-recorded-requires : goal.history-recorded-requires
+history-recorded-requires g c = λ traced.
     let K = Known g.row.U-Value.Denot g.row.U-Share.Denot g.row.U-World.Denot in
     let all : List K = c.args.ended.items ++ c.args.unborn.items in
     let given : List K = c.into_inner.result.items ++ c.into_inner-2.result.items in

@@ -21,8 +21,8 @@ close_package-values-requires-clause-rest g c κs within = λ n t e.
     let same = c.into_inner.ensures ∙ c.new-threads.ensures in
     ((c.requires.threads n t (ap (λ ts. get_elem? ts.items n) (sym same) ∙ e)).rest.wait, λ two. absurd (let z : One ≡ Two = sym c.requires.version ∙ two in cc))
 
-pub history-told-requires : goal.history-told-requires
-history-told-requires g c = λ traced.
+pub history-recorded-requires : goal.history-recorded-requires
+history-recorded-requires g c = λ traced.
     let v = c.close_package-values.ensures.values in
     let s = c.close_package-values.ensures.stored in
     let same = ap (λ ts. ts.items) (c.into_inner.ensures ∙ c.new-threads.ensures) in

@@ -6,7 +6,7 @@ use Rattle.nub_rule.specs.Ends.{first_known}
 use Rattle.nub_rule.specs.Known.{Known}
 use Rattle.nub_rule.proofs.Each.{at_within}
 use Rattle.nub_rule.proofs.Ordering.{read-at}
-use Rattle.nub.proofs.Begun.{behind-first, first_of_two, right_is, unborn_is}
+use Rattle.nub.proofs.Begun.{tail_of-first, first_of_two, right_is, unborn_is}
 use Rattle.nub.proofs.whole.open_forked.Given.{Over}
 use Rattle.nub.proofs.whole.open_forked.Goals as goal
 use Rattle.nub.proofs.whole.open_forked.Goals.{After-remove-first}
@@ -18,7 +18,7 @@ later g c n t at =
     let e = c.in_ok-package.ensures in
     let some_there = c.requires.lawful.some in
     let long = e.count in
-    e.threads (n + 1) t (behind-first c.in_ok-package.threads.items c.remove-first.new.self.items n t c.remove-first.ensures.items (omega arith) at)
+    e.threads (n + 1) t (tail_of-first c.in_ok-package.threads.items c.remove-first.new.self.items n t c.remove-first.ensures.items (omega arith) at)
     ∙ (λ j. first_known c.in_ok-package.package.table_id (c.requires.version j) (sym e.package.2 j) g.U.Uses.begin (n + 1))
 
 pub rights_of-requires-clause-unborn : goal.rights_of-requires-clause-unborn
@@ -44,5 +44,5 @@ returns-clause-rights g c = λ n t at.
     let some_there = c.requires.lawful.some in
     let long = e.count in
     let all = ap (λ l. l.threads) e.package.0 in
-    let low = at_within c.in_ok-package.threads.items (n + 1) t (behind-first c.in_ok-package.threads.items c.remove-first.new.self.items n t c.remove-first.ensures.items (omega arith) there) in
+    let low = at_within c.in_ok-package.threads.items (n + 1) t (tail_of-first c.in_ok-package.threads.items c.remove-first.new.self.items n t c.remove-first.ensures.items (omega arith) there) in
     right_is c.in_ok-package.package g.U.Uses.begin (n + 1) t (omega arith) (later g (goal.at.returns-clause-rights g c).After-remove-first n t (ap (λ l. get_elem? l n) (sym c.rights_of.ensures) ∙ at))

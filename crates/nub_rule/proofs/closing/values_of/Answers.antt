@@ -1,6 +1,6 @@
 use Rattle.std.proofs.Common.{rules, ◌≡◌, ℕ, ◌+◌, ◌-◌, ◌<◌, ◌∙◌, ap, sym, subst, arith, length, length-append, List, ◌∷◌, [], Some}
 use Rattle.nub_rule.proofs.Each.{at_within}
-use Rattle.nub_rule.proofs.Ends.{one_more, full_behind, empty_before}
+use Rattle.nub_rule.proofs.Ends.{one_more, full_after, empty_before}
 use mathlib.Core.Option.{some, some-injective}
 use lib.ListN.{get_elem?}
 use Rattle.std.specs.Mem.Slots.{slots_items, slots_counts, slots_len}
@@ -19,7 +19,7 @@ pub loop-i-preserved : goal.loop-i-preserved
 loop-i-preserved g c = let i : ℕ = c.loop-i.i in let inv = c.loop-i.invariant in let t = c.take.ensures.others in record {
   len = t.2 ∙ inv.len;
   items = t.0 ∙ inv.items;
-  full = full_behind _ _ i _ _ t.1 t.2 inv.full;
+  full = full_after _ _ i _ _ t.1 t.2 inv.full;
   empty = empty_before _ _ i t.1 inv.empty;
   room = let a = inv.room in let b = c.push_reserved.ensures.capacity in let e = inv.len in let d = t.2 in omega arith;
   count = let n = inv.count in omega (arith, ap length c.push_reserved.ensures.items, length-append c.loop-i.values.items (c.value_in-x.result ∷ []));

@@ -3,8 +3,8 @@ use Rattle.nub_rule.specs.declared.rule.Slot.TheVariants.{Queue}
 use Rattle.nub_rule.specs.Items.{queue_of}
 use Rattle.larch_actions.specs.Layout.{IsLawful}
 use Rattle.nub_rule.specs.Places.{length_at}
-use Rattle.nub_rule.specs.Plays.{behind}
-use Rattle.nub_rule.proofs.Lessening.{length-behind}
+use Rattle.nub_rule.specs.Plays.{tail_of}
+use Rattle.nub_rule.proofs.Lessening.{length-tail_of}
 use Rattle.nub_rule.proofs.Handling.{same_slot}
 use Rattle.nub_rule.proofs.AtHand.{QueueAtHand, queue_at_hand, requeued_seen}
 use Rattle.nub_rule.proofs.Requeueing.{pop_shown, may_write, written}
@@ -36,11 +36,11 @@ store-requires-clause-allowed g c κs within = let a = at_hand g (goal.at.store-
 pub invariant_of-me : goal.invariant_of-me
 invariant_of-me g c = let a = at_hand g (goal.at.invariant_of-me g c).After-bring in let line = c.pop_slot-first.ensures c.me.inside.seat.me.0.part.queue (same_slot c.number-o.result _ _ _ _ c.slot_mut.ensures.value a.first) in
     (written (pop_shown c.me.inside.seat.me c.p.view_is c.me.view_is c.number-o.ensures c.requires.may) _ _ _ _ c.bring.new.seat.me _ _ _ c.me.invariant a (c.store.ensures.0 ∙ c.bring.ensures.same.0) line.0 c.store.ensures.2 (c.length_word.ensures ∙ ap length_at (sym c.number-o.ensures))
-    (λ e. let short = length-behind c.me.inside.seat.me.0.part.queue in let room = c.me.invariant.hands.room c.number-o.result a.spins e in omega arith)).fits
+    (λ e. let short = length-tail_of c.me.inside.seat.me.0.part.queue in let room = c.me.invariant.hands.room c.number-o.result a.spins e in omega arith)).fits
 
 pub returns : goal.returns
 returns g c = let a = at_hand g (goal.at.returns g c).After-bring in let line = c.pop_slot-first.ensures c.me.inside.seat.me.0.part.queue (same_slot c.number-o.result _ _ _ _ c.slot_mut.ensures.value a.first) in (
   λ e. ap (λ k. k.queue) (sym c.me.view_is) ∙ line.2 e,
-  λ x e. subst (λ (l : List ℕ). l ≡ x.0 ∷ behind l) (ap (λ k. k.queue) c.me.view_is) (line.3 x e),
+  λ x e. subst (λ (l : List ℕ). l ≡ x.0 ∷ tail_of l) (ap (λ k. k.queue) c.me.view_is) (line.3 x e),
   λ f tells. requeued_seen f _ _ _ _ _ _ _ _ c.bring.new.seat.me _ _ c.me.invariant a (c.store.ensures.0 ∙ c.bring.ensures.same.0) line.0 (tells _ _ _ _ c.length_word.ensures c.store.ensures.2) _ _ _ _ c.me.view_is,
 )

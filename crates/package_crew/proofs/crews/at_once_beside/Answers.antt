@@ -6,15 +6,15 @@ use Rattle.package_crew.proofs.crews.at_once_beside.Goals as goal
 pub run_crew-requires-clause-jobs : goal.run_crew-requires-clause-jobs
 run_crew-requires-clause-jobs g c κs within = all_ready _ c.args.threads.items c.requires.threads
 
-pub parted-threads-requires-clause-firsts : goal.parted-threads-requires-clause-firsts
-parted-threads-requires-clause-firsts g c =
+pub split-threads-requires-clause-firsts : goal.split-threads-requires-clause-firsts
+split-threads-requires-clause-firsts g c =
     let same = zip_length _ _ _ c.in-Ok-run_crew.ensures.done in
     let room = c.in-Ok.ensures.capacity in
     let count = c.len-count.ensures in
     (c.in-Ok.ensures.items, omega arith)
 
-pub parted-threads-requires-clause-seconds : goal.parted-threads-requires-clause-seconds
-parted-threads-requires-clause-seconds g c =
+pub split-threads-requires-clause-seconds : goal.split-threads-requires-clause-seconds
+split-threads-requires-clause-seconds g c =
     let same = zip_length _ _ _ c.in-Ok-run_crew.ensures.done in
     let room = c.in-Ok-with_capacity.ensures.capacity in
     let count = c.len-count.ensures in
@@ -22,12 +22,12 @@ parted-threads-requires-clause-seconds g c =
 
 pub returns-in-Ok-run_crew-clause-threads : goal.returns-in-Ok-run_crew-clause-threads
 returns-in-Ok-run_crew-clause-threads g c =
-    ap length c.parted-threads.ensures.firsts ∙ as_many _ (λ p. p.0) c.args.threads.items c.in-Ok-run_crew.field-0.results.items c.in-Ok-run_crew.ensures.done
+    ap length c.split-threads.ensures.firsts ∙ as_many _ (λ p. p.0) c.args.threads.items c.in-Ok-run_crew.field-0.results.items c.in-Ok-run_crew.ensures.done
 
 pub returns-in-Ok-run_crew-clause-results : goal.returns-in-Ok-run_crew-clause-results
 returns-in-Ok-run_crew-clause-results g c =
-    ap length c.parted-threads.ensures.seconds ∙ as_many _ (λ p. p.1) c.args.threads.items c.in-Ok-run_crew.field-0.results.items c.in-Ok-run_crew.ensures.done
+    ap length c.split-threads.ensures.seconds ∙ as_many _ (λ p. p.1) c.args.threads.items c.in-Ok-run_crew.field-0.results.items c.in-Ok-run_crew.ensures.done
 
 pub returns-in-Ok-run_crew-clause-each : goal.returns-in-Ok-run_crew-clause-each
 returns-in-Ok-run_crew-clause-each g c =
-    rw (c.parted-threads.ensures.firsts, c.parted-threads.ensures.seconds) (came_back _ c.args.threads.items c.in-Ok-run_crew.field-0.results.items c.in-Ok-run_crew.ensures.done)
+    rw (c.split-threads.ensures.firsts, c.split-threads.ensures.seconds) (came_back _ c.args.threads.items c.in-Ok-run_crew.field-0.results.items c.in-Ok-run_crew.ensures.done)

@@ -10,8 +10,8 @@ pub returns-in-Err-clause-answers : goal.returns-in-Err-clause-answers
 returns-in-Err-clause-answers g c = inr (c.ends.ensures.status, c.in-Err.ensures.cause.failed, c.in-Err.ensures.cut_off, c.ends.ensures.notes)
 
 pub returns-in-Ok-clause-exact : goal.returns-in-Ok-clause-exact
-returns-in-Ok-clause-exact g c = λ bytes v told mine other f.
-    found_by c.ends_by.result c.in-Ok.found v (c.in-Ok.ensures.exact bytes v told (λ e. mine (c.ends_by.ensures.status ∙ ap status_of e)) other f) (inl c.ends_by.ensures.status)
+returns-in-Ok-clause-exact g c = λ bytes v reported mine other f.
+    found_by c.ends_by.result c.in-Ok.found v (c.in-Ok.ensures.exact bytes v reported (λ e. mine (c.ends_by.ensures.status ∙ ap status_of e)) other f) (inl c.ends_by.ensures.status)
 
-pub returns-in-Ok-clause-told : goal.returns-in-Ok-clause-told
-returns-in-Ok-clause-told g c = λ mine sink. c.in-Ok.ensures.told (λ e. mine (c.ends_by.ensures.status ∙ ap status_of e))
+pub returns-in-Ok-clause-reported : goal.returns-in-Ok-clause-reported
+returns-in-Ok-clause-reported g c = λ mine sink. c.in-Ok.ensures.reported (λ e. mine (c.ends_by.ensures.status ∙ ap status_of e))

@@ -1,6 +1,6 @@
 use Rattle.std.proofs.Common.{◌≡◌, [], ◌∷◌, map, IfNone, ap, subst, sym, ◌∙◌, arith}
 use Rattle.std.specs.String.{string_bytes}
-use Rattle.trace_shapes.specs.declared.view.View.{View}
+use Rattle.trace_shapes.specs.declared.view.DrawnRange.{DrawnRange}
 use Rattle.program_timeline.specs.Words.{AsksFor}
 use Rattle.program_timeline.proofs.Wording.{two_items, four_items}
 use Rattle.program_timeline.proofs.words.read_view.Goals as goal
@@ -11,7 +11,7 @@ returns-in-len2-clause-none c =
     let said : map string_bytes c.args.said.now ≡ c.as_str.result.now ∷ c.as_str-in-len2.result.now ∷ [] =
     ap (map string_bytes) items ∙ (λ i. sym c.as_str.ensures.value i ∷ sym c.as_str-in-len2.ensures.value i ∷ [])
     in
-    subst (λ w. IfNone c.read_one.result ((v : View) → AsksFor w v → ⊥)) (sym said) c.read_one.ensures.none
+    subst (λ w. IfNone c.read_one.result ((v : DrawnRange) → AsksFor w v → ⊥)) (sym said) c.read_one.ensures.none
 
 pub returns-in-len4-clause-none : goal.returns-in-len4-clause-none
 returns-in-len4-clause-none c =
@@ -19,4 +19,4 @@ returns-in-len4-clause-none c =
     let said : map string_bytes c.args.said.now ≡ c.as_str-in-len4.result.now ∷ c.as_str-in-len4-2.result.now ∷ c.as_str-in-len4-3.result.now ∷ c.as_str-in-len4-4.result.now ∷ [] =
     ap (map string_bytes) items ∙ (λ i. sym c.as_str-in-len4.ensures.value i ∷ sym c.as_str-in-len4-2.ensures.value i ∷ sym c.as_str-in-len4-3.ensures.value i ∷ sym c.as_str-in-len4-4.ensures.value i ∷ [])
     in
-    subst (λ w. IfNone c.read_two.result ((v : View) → AsksFor w v → ⊥)) (sym said) c.read_two.ensures.none
+    subst (λ w. IfNone c.read_two.result ((v : DrawnRange) → AsksFor w v → ⊥)) (sym said) c.read_two.ensures.none

@@ -11,10 +11,10 @@ pub release-requires-clause-may : goal.release-requires-clause-may
 release-requires-clause-may g c κs within =
     let m = c.args.at.now.mutex.0 in
     let may = c.requires.may in
-    let told = c.broadcast.ensures in (
+    let recorded = c.broadcast.ensures in (
       may.0,
-      ap (λ l. get_elem? l m) told.held ∙ may.1,
-      λ w s world share. subst (λ (n : ℕ). Allowed m n may.0 c.args.state s (goes_to m (role_of s m) Idle c.args.state ∷ s)) (sym told.same.number) (may.2 s (sym told.share ∙ share)),
+      ap (λ l. get_elem? l m) recorded.held ∙ may.1,
+      λ w s world share. subst (λ (n : ℕ). Allowed m n may.0 c.args.state s (goes_to m (role_of s m) Idle c.args.state ∷ s)) (sym recorded.same.number) (may.2 s (sym recorded.share ∙ share)),
     )
 
 pub release-requires-else-wake-clause-may : goal.release-requires-else-wake-clause-may
@@ -25,13 +25,13 @@ returns-then-wake-clause-woke g c = λ yes.
     let a = c.args.me.now in
     let b = c.broadcast.new.me in
     let m = c.args.at.now.mutex.0 in
-    let told = c.broadcast.ensures in
+    let recorded = c.broadcast.ensures in
     let wake = event a.number (broadcast_action c.args.at.now.changed.0 []) in
-    adds_on (wake ∷ []) [] (release_event a.number m) a b c.release.new.me (added [] wake a b told.event) (subst (λ (n : ℕ). Adds [] (release_event n m) b c.release.new.me) told.same.number c.release.ensures.event)
+    adds_on (wake ∷ []) [] (release_event a.number m) a b c.release.new.me (added [] wake a b recorded.event) (subst (λ (n : ℕ). Adds [] (release_event n m) b c.release.new.me) recorded.same.number c.release.ensures.event)
 
 pub returns-then-wake-clause-role : goal.returns-then-wake-clause-role
 returns-then-wake-clause-role g c = λ s share.
     let m = c.args.at.now.mutex.0 in
     let may = c.requires.may in
-    let told = c.broadcast.ensures in
-    c.release.ensures.share c.args.p.now.world s may.0 (told.same.world ∙ c.requires.world) (told.share ∙ share) (ap (λ l. get_elem? l m) told.held ∙ may.1)
+    let recorded = c.broadcast.ensures in
+    c.release.ensures.share c.args.p.now.world s may.0 (recorded.same.world ∙ c.requires.world) (recorded.share ∙ share) (ap (λ l. get_elem? l m) recorded.held ∙ may.1)

@@ -40,8 +40,8 @@ follows l k xs ys e f script =
     let F : List Line → Type 0 = λ z. MayFollow l none_held none_forked z in
     subst L (sym e) (subst F (sym f) script.follow)
 
-pub placed-requires : goal.placed-requires
-placed-requires g c n =
+pub place-requires : goal.place-requires
+place-requires g c n =
     let l = c.in_ok-pkg.pkg.layout in
     let xs = c.lines-lines.result.now in
     let same : l ≡ c.args.script.now.layout = c.in_ok-pkg.ensures.package.0 ∙ c.layout-layout.ensures.layout in

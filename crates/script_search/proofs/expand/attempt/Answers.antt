@@ -5,14 +5,14 @@ use Rattle.script_search.proofs.expand.attempt.Goals as goal
 
 pub returns-in-None-clause-ok : goal.returns-in-None-clause-ok
 returns-in-None-clause-ok c =
-    tries_refused c.args.plan.now.layout c.args.plan.now.lines (moment_of c.args.node.now.board.now) c.args.found.now (event c.args.node.now.thread c.args.choice.now.action) c.in_ok-moved.field-0 c.requires.sound c.in_ok-moved.ensures c.in-None.is
+    tries_refused c.args.plan.now.layout c.args.plan.now.lines (moment_of c.args.node.now.board.now) c.args.found.now (event c.args.node.now.thread c.args.choice.now.action) c.in_ok-next_scenes.field-0 c.requires.sound c.in_ok-next_scenes.ensures c.in-None.is
 
 pub returns-in-Err-clause-full : goal.returns-in-Err-clause-full
 returns-in-Err-clause-full c = λ is.
-    tries_full c.args.plan.now.layout c.args.plan.now.lines (moment_of c.args.node.now.board.now) c.args.found.now c.args.node.now.place (event c.args.node.now.thread c.args.choice.now.action) c.in_ok-moved.field-0 c.in-Some.next
-    c.requires.sound c.requires.there c.in_ok-moved.ensures c.in-Some.is (c.in-Err.ensures.full is)
+    tries_full c.args.plan.now.layout c.args.plan.now.lines (moment_of c.args.node.now.board.now) c.args.found.now c.args.node.now.place (event c.args.node.now.thread c.args.choice.now.action) c.in_ok-next_scenes.field-0 c.in-Some.next
+    c.requires.sound c.requires.there c.in_ok-next_scenes.ensures c.in-Some.is (c.in-Err.ensures.full is)
 
 pub returns-in-Ok-clause-ok : goal.returns-in-Ok-clause-ok
 returns-in-Ok-clause-ok c =
-    tries_added c.args.plan.now.layout c.args.plan.now.lines (moment_of c.args.node.now.board.now) c.args.found.now c.add.new.self c.args.node.now.place (event c.args.node.now.thread c.args.choice.now.action) c.in_ok-moved.field-0 c.in-Some.next
-    c.requires.sound c.requires.there c.in_ok-moved.ensures c.in-Some.is c.in-Ok.ensures.keyed c.in-Ok.ensures.ok
+    tries_added c.args.plan.now.layout c.args.plan.now.lines (moment_of c.args.node.now.board.now) c.args.found.now c.add.new.self c.args.node.now.place (event c.args.node.now.thread c.args.choice.now.action) c.in_ok-next_scenes.field-0 c.in-Some.next
+    c.requires.sound c.requires.there c.in_ok-next_scenes.ensures c.in-Some.is c.in-Ok.ensures.keyed c.in-Ok.ensures.ok

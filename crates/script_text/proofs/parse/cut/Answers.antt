@@ -14,7 +14,7 @@ returns c =
     let bytes = c.args.bytes.now in
     let at = c.in-Some.at in
     let h = c.in-Some.ensures in
-    let behind : take (length bytes - (at + 1)) (drop (at + 1) bytes) ≡ drop (at + 1) bytes = take_all _ (drop (at + 1) bytes) (omega (arith, length-drop (at + 1) bytes)) in (
+    let following : take (length bytes - (at + 1)) (drop (at + 1) bytes) ≡ drop (at + 1) bytes = take_all _ (drop (at + 1) bytes) (omega (arith, length-drop (at + 1) bytes)) in (
       lacks_take c.args.stop bytes at (omega (arith, h.0.high)) h.0.before,
-      rw (behind, add-one) (split_at c.args.stop bytes at h.0.high h.1),
+      rw (following, add-one) (split_at c.args.stop bytes at h.0.high h.1),
     )

@@ -9,4 +9,4 @@ returns-in-Ok-Second-clause-fault g c =
     let s = rw c.in-Ok-Second.field-0-is at c.in-Ok-Second.ensures.start in
     let rest = prepend_known c.first.new.window (g.I.Source.left c.first.new.input) in
     let P : List ℕ → Type 0 = λ l. Consumes (prepend_known c.args.window.now (g.I.Source.left c.args.input.now)) rest (l ++ 10 ∷ []) in
-    if_err c.second.result _ _ (λ e f. inr (rest, subst P s.1 s.2, second_since rest _ _ _ _ e c.in-Ok-Second.ensures.told.later f)) c.second.ensures.fault
+    if_err c.second.result _ _ (λ e f. inr (rest, subst P s.1 s.2, second_since rest _ _ _ _ e c.in-Ok-Second.ensures.reported.later f)) c.second.ensures.fault

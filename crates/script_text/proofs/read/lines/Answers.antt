@@ -20,5 +20,5 @@ loop-window-preserved g c =
       consumed =
           subst (Consumes _ (prepend_known c.one.new.window (g.I.Source.left c.one.new.input))) (sym (ap lines_text t.1.lines ∙ lines_append xs (x ∷ [])))
           (consumes_trans _ (prepend_known c.loop-window.window (g.I.Source.left c.loop-window.input)) _ (lines_text xs) (line_text x ++ 10 ∷ []) was.consumed t.2);
-      unfailed = c.in-Ok-true.ensures.told.unfailed ∙ was.unfailed;
+      unfailed = c.in-Ok-true.ensures.reported.unfailed ∙ was.unfailed;
     }

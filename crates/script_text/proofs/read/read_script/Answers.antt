@@ -25,7 +25,7 @@ returns-in-Err-lines-clause-fault g c =
     let rest = prepend_known c.head.new.window (g.I.Source.left c.head.new.input) in
     let P : Option (List ℕ) → Type 0 = λ o. Consumes o rest (first_line l.version ++ (layout_text l ++ 10 ∷ [])) in
     let Q : _ → Type 0 = λ k. LaterFault k rest (g.I.Source.left c.lines.new.input) (g.I.Source.faults c.head.new.input) (g.I.Source.faults c.lines.new.input) c.in-Err-lines.fault in
-    later_reason l _ rest _ _ _ _ c.in-Err-lines.fault h.layout.0 (subst P r h.layout.1) h.told.later (subst Q c.new-draft.ensures.layout c.in-Err-lines.ensures.fault)
+    later_reason l _ rest _ _ _ _ c.in-Err-lines.fault h.layout.0 (subst P r h.layout.1) h.reported.later (subst Q c.new-draft.ensures.layout c.in-Err-lines.ensures.fault)
 
 pub returns-clause-script : goal.returns-clause-script
 returns-clause-script g c =

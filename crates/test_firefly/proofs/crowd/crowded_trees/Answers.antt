@@ -6,8 +6,8 @@ use Rattle.test_firefly.proofs.crowd.crowded_trees.Goals as goal
 pub loop-made-preserved : goal.loop-made-preserved
 loop-made-preserved c = record {
   many = search rules;
-  told = rw c.in_ok-push.ensures.items (tells-more (λ t. unseen t.faults) None _ refl c.loop-made.trees.items c.loop-made.invariant.told);
+  reported = rw c.in_ok-push.ensures.items (tells-more (λ t. unseen t.faults) None _ refl c.loop-made.trees.items c.loop-made.invariant.reported);
 }
 
 pub returns-clause-agree : goal.returns-clause-agree
-returns-clause-agree c = (None, c.loop-made.invariant.told)
+returns-clause-agree c = (None, c.loop-made.invariant.reported)

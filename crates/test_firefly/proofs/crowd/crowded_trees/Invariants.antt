@@ -5,5 +5,5 @@ use Rattle.test_firefly.proofs.crowd.crowded_trees.Given as goal
 abbrev pub invariant-loop-made : goal.invariant-loop-made
 invariant-loop-made l = record {
   many : length l.trees.items ≡ l.made;
-  told : AllTell None (looks_of (λ t. unseen t.faults) l.trees.items);
+  reported : AllTell None (looks_of (λ t. unseen t.faults) l.trees.items);
 }

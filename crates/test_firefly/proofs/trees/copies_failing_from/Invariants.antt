@@ -6,5 +6,5 @@ use Rattle.test_firefly.proofs.trees.copies_failing_from.Given as goal
 abbrev pub invariant-loop-made : goal.invariant-loop-made
 invariant-loop-made l = record {
   many : length l.trees.items ≡ l.made;
-  told : AllTell (Some (tree_of l.fn.tree)) (looks_of (λ m. record { told = Some (tree_of m); weak = weak_of m; calls = calls_of m; faults = faults_of m }) l.trees.items);
+  reported : AllTell (Some (tree_of l.fn.tree)) (looks_of (λ m. record { reported = Some (tree_of m); weak = weak_of m; calls = calls_of m; faults = faults_of m }) l.trees.items);
 }

@@ -31,8 +31,8 @@ returns-then-turn g c = record {
       let gave = c.release.ensures in
       let woke = c.wake_up.ensures.woke in
       let yes : c.args.turn.after ≡ true = search rules in
-      let told = added_on (e ∷ []) woke.0 c.args.me.now c.release.new.me c.wake_up.new.me (added [] e c.args.me.now c.release.new.me gave.event) woke.2 in
-      (woke.0, subst (λ n. Wakes c.args.whom n woke.0) gave.same.number woke.1, subst (λ b. Added (ends_turn b e woke.0) c.args.me.now c.wake_up.new.me) (sym yes) told);
+      let recorded = added_on (e ∷ []) woke.0 c.args.me.now c.release.new.me c.wake_up.new.me (added [] e c.args.me.now c.release.new.me gave.event) woke.2 in
+      (woke.0, subst (λ n. Wakes c.args.whom n woke.0) gave.same.number woke.1, subst (λ b. Added (ends_turn b e woke.0) c.args.me.now c.wake_up.new.me) (sym yes) recorded);
   idle = λ n s x i. c.wake_up.ensures.idle n (grown c.args.turn.mutex.0 x c.args.value s) (c.release.ensures.idle n s x i);
 }
 
@@ -47,7 +47,7 @@ returns-else-turn g c = record {
       let number = (c.wake_up-else-turn.ensures.holding h.0 c.args.turn.mutex.0 h.1 h.2 h.3).number ∙ sym h.3.number in
       let gave = subst (λ n. Adds [] (release_event n c.args.turn.mutex.0) mid c.release-else-turn.new.me) number c.release-else-turn.ensures.event in
       let no : c.args.turn.after ≡ false = search rules in
-      let told = added_on woke.0 (e ∷ []) c.args.me.now mid c.release-else-turn.new.me woke.2 (added [] e mid c.release-else-turn.new.me gave) in
-      (woke.0, woke.1, subst (λ b. Added (ends_turn b e woke.0) c.args.me.now c.release-else-turn.new.me) (sym no) told);
+      let recorded = added_on woke.0 (e ∷ []) c.args.me.now mid c.release-else-turn.new.me woke.2 (added [] e mid c.release-else-turn.new.me gave) in
+      (woke.0, woke.1, subst (λ b. Added (ends_turn b e woke.0) c.args.me.now c.release-else-turn.new.me) (sym no) recorded);
   idle = λ n s x i. c.release-else-turn.ensures.idle n s x (c.wake_up-else-turn.ensures.holding n c.args.turn.mutex.0 s x i);
 }

@@ -15,6 +15,6 @@ returns-clause-cause g c = cause_then c.put_number.result c.in_ok-put.ensures.ca
 
 pub returns-in_err-put-clause-text : goal.returns-in_err-put-clause-text
 returns-in_err-put-clause-text g c =
-    let told = g.O.Sink.held c.args.out.now in
+    let reported = g.O.Sink.held c.args.out.now in
     let held = c.args.held.now.items in
-    puts_failed c.from_residual.result told _ held _ _ c.from_residual.ensures.0 (prefix_of_two told _ held c.args.piece.now (decimal c.args.number) c.in_err-put.ensures.text)
+    puts_failed c.from_residual.result reported _ held _ _ c.from_residual.ensures.0 (prefix_of_two reported _ held c.args.piece.now (decimal c.args.number) c.in_err-put.ensures.text)

@@ -15,6 +15,6 @@ returns-clause-cause g c = cause_then c.put.result c.in_ok-put_path.ensures.caus
 
 pub returns-in_err-put_path-clause-text : goal.returns-in_err-put_path-clause-text
 returns-in_err-put_path-clause-text g c =
-    let told = g.O.Sink.held c.args.out.now in
+    let reported = g.O.Sink.held c.args.out.now in
     let held = c.args.held.now.items in
-    puts_failed c.from_residual.result told _ held _ _ c.from_residual.ensures.0 (prefix_of_two told _ held (escaped c.args.path.now) newline c.in_err-put_path.ensures.text)
+    puts_failed c.from_residual.result reported _ held _ _ c.from_residual.ensures.0 (prefix_of_two reported _ held (escaped c.args.path.now) newline c.in_err-put_path.ensures.text)

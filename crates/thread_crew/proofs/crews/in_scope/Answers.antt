@@ -1,8 +1,8 @@
 use Rattle.std.proofs.Common.{◌≡◌, ◌∷◌, [], arith, length, refl, ap, sym, subst, ◌∙◌, append_assoc}
 use Rattle.std.specs.Vec.Iter.{into_iter_items}
 use Rattle.std.specs.List.{AllZip, AllByRecursion, sum_by}
-use Rattle.thread_crew.specs.Crews.{IsChildOf, Told, held_in}
-use Rattle.thread_crew.proofs.Counts.{all_taken, count_first, fits, has_place, held_once, held_still, one_left, told_of, told_still, room_first, room_still, same_count}
+use Rattle.thread_crew.specs.Crews.{IsChildOf, IsHeldCount, held_in}
+use Rattle.thread_crew.proofs.Counts.{all_taken, count_first, fits, has_place, held_once, held_still, one_left, recorded_of, recorded_still, room_first, room_still, same_count}
 use Rattle.thread_crew.proofs.Zips.{zip_push, all_yielded}
 use Rattle.thread_crew.proofs.crews.in_scope.Goals as goal
 
@@ -20,7 +20,7 @@ loop-job-preserved g c =
       left = one_left x _ _ _ _ steps gone was.left;
       room = room_still _ _ _ _ took gone _ _ c.push_reserved.ensures.capacity was.room;
       count = same_count _ _ _ _ took gone _ was.count;
-      told = told_still _ _ _ _ _ _ c.len-in-loop-job.ensures took was.told c.start_or_hold-child.ensures.counted _ c.start_or_hold-child.ensures.exact;
+      recorded = recorded_still _ _ _ _ _ _ c.len-in-loop-job.ensures took was.recorded c.start_or_hold-child.ensures.counted _ c.start_or_hold-child.ensures.exact;
       few = (let few = was.few in let exact = c.start_or_hold-child.ensures.exact in let once = held_once c.start_or_hold-child.result in omega arith);
       held = held_still _ _ c.start_or_hold-child.result _ _ c.push_reserved.ensures.items was.held c.start_or_hold-child.ensures.exact;
       runs = runs.1;
@@ -55,7 +55,7 @@ pub finish-requires-clause-between : goal.finish-requires-clause-between
 finish-requires-clause-between g c =
     let at = c.loop-job in
     let many = all_taken _ _ _ _ at.invariant.count c.in-None.ensures.steps.0 c.into_iter-job-iterator.ensures.into_iter_gives.1 ∙ c.args.jobs.ok.0 in
-    c.requires.1 at.held (told_of _ _ _ _ many at.invariant.told at.invariant.few)
+    c.requires.1 at.held (recorded_of _ _ _ _ many at.invariant.recorded at.invariant.few)
 
 pub finish-requires-clause-held : goal.finish-requires-clause-held
 finish-requires-clause-held g c = c.loop-job.invariant.held
@@ -68,7 +68,7 @@ returns g c =
     let held = c.finish.ensures.held in (
       c.finish.ensures.results c.args.jobs.items (subst (λ l. AllZip (IsChildOf g.T.Task.run_gives (λ f. g.T.Task.can_run f.0) (λ f r. g.T.Task.run_gives f.0 r)) l at.children.items) all at.invariant.given),
       (
-        subst (Told c.args.starts (length c.args.jobs.items)) (sym held) (told_of _ _ _ _ many at.invariant.told at.invariant.few),
+        subst (IsHeldCount c.args.starts (length c.args.jobs.items)) (sym held) (recorded_of _ _ _ _ many at.invariant.recorded at.invariant.few),
         subst (λ h. g.M.FnOnce.post c.args.between (c.args.own, (h, tt)) c.finish.result.between) (sym held) c.finish.ensures.between,
       ),
       tt,
@@ -90,7 +90,7 @@ loop-job-init g c =
       left = gives.1 ∙ c.args.jobs.ok.0 ∙ sym (ap length gives.0);
       room = room_first _ _ empty _ _ _ gives.1 c.len.ensures room.room;
       count = count_first _ _ empty;
-      told = omega arith;
+      recorded = omega arith;
       few = omega arith;
       held = sym (ap (λ l. sum_by held_in l) room.empty);
       runs = subst (λ l. AllByRecursion g.T.Task.can_run l) (sym gives.0) c.requires.0;

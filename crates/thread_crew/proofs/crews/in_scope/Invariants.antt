@@ -11,7 +11,7 @@ invariant-loop-job g l =
       left : into_iter_len l.job-iterator ≡ length (into_iter_items l.job-iterator);
       room : vec_len l.children + into_iter_len l.job-iterator ≤ vec_capacity l.children;
       count : vec_len l.children + into_iter_len l.job-iterator ≡ into_iter_len l.initial.job-iterator;
-      told : vec_len l.children ≤ l.starts + l.held;
+      recorded : vec_len l.children ≤ l.starts + l.held;
       few : l.held ≤ vec_len l.children;
       held : l.held ≡ sum_by held_in l.children.items;
       runs : AllByRecursion g.T.Task.can_run (into_iter_items l.job-iterator);

@@ -64,13 +64,13 @@ pub returns-in-Err-apply-clause-just : goal.returns-in-Err-apply-clause-just
 returns-in-Err-apply-clause-just g c =
     let u = c.loop-event.invariant.watching.under_way in
     let taken = rw c.in-Ok-Some.field-0-is at (c.in-Ok-Some.ensures.event u.phase) in
-    fails_on _ _ _ _ _ _ _ _ c.in-Ok-Some.event c.in-Err-apply.why u taken c.in-Err-apply.ensures.refused
+    fails_on _ _ _ _ _ _ _ _ c.in-Ok-Some.event c.in-Err-apply.why u taken c.in-Err-apply.ensures.verdict_of
 
 pub returns-in-Err-apply-clause-watched : goal.returns-in-Err-apply-clause-watched
 returns-in-Err-apply-clause-watched g c =
     let n = c.loop-event.invariant.watching in
     let taken = rw c.in-Ok-Some.field-0-is at (c.in-Ok-Some.ensures.event n.under_way.phase) in
-    seen_illegal g.W.Watch.keeps _ _ _ _ _ _ _ _ _ _ n _ c.in-Ok-Some.event c.in-Err-apply.why taken c.in-Err-apply.ensures.refused
+    seen_illegal g.W.Watch.keeps _ _ _ _ _ _ _ _ _ _ n _ c.in-Ok-Some.event c.in-Err-apply.why taken c.in-Err-apply.ensures.verdict_of
 
 pub returns-in-Ok-None-clause-just : goal.returns-in-Ok-None-clause-just
 returns-in-Ok-None-clause-just g c =
@@ -90,21 +90,21 @@ returns-in-Ok-None-clause-watched g c =
 
 pub returns-in-Err-clause-just : goal.returns-in-Err-clause-just
 returns-in-Err-clause-just g c =
-    rw c.refused.ensures (head_fault _ _ _ _ _ c.in-Err.fault (rw c.requires.lines at c.in-Err.ensures.fault.reason) c.in-Err.ensures.fault.lacks)
+    rw c.verdict_of.ensures (head_fault _ _ _ _ _ c.in-Err.fault (rw c.requires.lines at c.in-Err.ensures.fault.reason) c.in-Err.ensures.fault.lacks)
 
 pub returns-in-Err-next_event-clause-just : goal.returns-in-Err-next_event-clause-just
 returns-in-Err-next_event-clause-just g c =
     let u = c.loop-event.invariant.watching.under_way in
     let h = c.in-Err-next_event.ensures in
-    rw c.refused-in-Err-next_event.ensures (fault_on _ _ _ _ _ _ _ _ _ _ c.in-Err-next_event.fault c.requires.fits u (h.fault u.phase))
+    rw c.verdict_of-in-Err-next_event.ensures (fault_on _ _ _ _ _ _ _ _ _ _ c.in-Err-next_event.fault c.requires.fits u (h.fault u.phase))
 
 pub returns-in-Err-next_event-clause-watched : goal.returns-in-Err-next_event-clause-watched
 returns-in-Err-next_event-clause-watched g c =
     let n = c.loop-event.invariant.watching in
-    rw c.refused-in-Err-next_event.ensures (seen_cut g.W.Watch.keeps _ _ _ _ _ _ _ _ _ _ n c.in-Err-next_event.fault)
+    rw c.verdict_of-in-Err-next_event.ensures (seen_cut g.W.Watch.keeps _ _ _ _ _ _ _ _ _ _ n c.in-Err-next_event.fault)
 
 pub overflow_add-events : goal.overflow_add-events
 overflow_add-events g c = omega (arith, few _ _ _ _ _ _ _ c.loop-event.invariant.watching.under_way, c.requires.fits)
 
 pub returns-in-Err-clause-watched : goal.returns-in-Err-clause-watched
-returns-in-Err-clause-watched g c = (refl, refl, (c.in-Err.fault, c.refused.ensures))
+returns-in-Err-clause-watched g c = (refl, refl, (c.in-Err.fault, c.verdict_of.ensures))

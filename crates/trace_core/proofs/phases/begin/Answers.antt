@@ -1,8 +1,8 @@
-use Rattle.exact_text.proofs.Told.{same_told}
+use Rattle.exact_text.proofs.Reported.{same_reported}
 use Rattle.trace_core.proofs.phases.begin.Goals as goal
 
-pub returns-in-Ok-clause-told : goal.returns-in-Ok-clause-told
-returns-in-Ok-clause-told g c = same_told _ _ _ c.in-Ok.ensures.told.unfailed
+pub returns-in-Ok-clause-reported : goal.returns-in-Ok-clause-reported
+returns-in-Ok-clause-reported g c = same_reported _ _ _ c.in-Ok.ensures.reported.unfailed
 
-pub returns-in-Err-clause-told : goal.returns-in-Err-clause-told
-returns-in-Err-clause-told g c = c.in-Err.ensures.told
+pub returns-in-Err-clause-reported : goal.returns-in-Err-clause-reported
+returns-in-Err-clause-reported g c = c.in-Err.ensures.reported

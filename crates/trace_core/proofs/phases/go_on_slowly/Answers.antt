@@ -1,5 +1,5 @@
 use Rattle.std.proofs.Common.{refl}
-use Rattle.exact_text.proofs.Told.{same_told}
+use Rattle.exact_text.proofs.Reported.{same_reported}
 use Rattle.trace_core.proofs.phases.go_on_slowly.Goals as goal
 
 pub returns-in-Err-clause-goes : goal.returns-in-Err-clause-goes
@@ -10,14 +10,14 @@ returns-in-Err-clause-goes g c =
       phase = refl;
     }
 
-pub returns-in-Ok-Some-clause-told : goal.returns-in-Ok-Some-clause-told
-returns-in-Ok-Some-clause-told g c = same_told _ _ _ c.in-Ok-Some.ensures.told.unfailed
+pub returns-in-Ok-Some-clause-reported : goal.returns-in-Ok-Some-clause-reported
+returns-in-Ok-Some-clause-reported g c = same_reported _ _ _ c.in-Ok-Some.ensures.reported.unfailed
 
-pub returns-in-Ok-None-clause-told : goal.returns-in-Ok-None-clause-told
-returns-in-Ok-None-clause-told g c = same_told _ _ _ c.in-Ok-None.ensures.told.unfailed
+pub returns-in-Ok-None-clause-reported : goal.returns-in-Ok-None-clause-reported
+returns-in-Ok-None-clause-reported g c = same_reported _ _ _ c.in-Ok-None.ensures.reported.unfailed
 
-pub returns-in-Err-clause-told : goal.returns-in-Err-clause-told
-returns-in-Err-clause-told g c = c.in-Err.ensures.told
+pub returns-in-Err-clause-reported : goal.returns-in-Err-clause-reported
+returns-in-Err-clause-reported g c = c.in-Err.ensures.reported
 
 pub returns-in-Ok-Some-clause-asks : goal.returns-in-Ok-Some-clause-asks
 returns-in-Ok-Some-clause-asks g c = rw c.value-place.ensures at c.in-Ok-Some.ensures.asks

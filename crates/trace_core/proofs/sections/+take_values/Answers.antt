@@ -2,12 +2,12 @@ use Rattle.std.proofs.Common.{◌≡◌, ◌+◌, ◌-◌, ◌∙◌, refl, arit
 use Rattle.trace_core.specs.declared.line.Line.TheVariants as line
 use Rattle.trace_core.specs.declared.line.Expect.TheVariants as expect
 use Rattle.exact_text.specs.Intake.{rest_of, room_of}
-use Rattle.exact_text.proofs.Texts.{reason_behind}
+use Rattle.exact_text.proofs.Texts.{reason_after}
 use Rattle.trace_core.proofs.LineLaws.{line_code}
 use Rattle.trace_core.proofs.Texts.{line_grammar}
 use Rattle.trace_core.proofs.Ends.{past_values, asked_reason, one_more_value, on_ok, if_err}
 use Rattle.trace_core.proofs.Asking.{value_asks, values_asks}
-use Rattle.exact_text.proofs.Told.{same_told, then_told, fault_told}
+use Rattle.exact_text.proofs.Reported.{same_reported, then_reported, fault_reported}
 use Rattle.trace_core.proofs.sections.+take_values.Goals as goal
 
 pub returns-then-least-layout-clause-fault : goal.returns-then-least-layout-clause-fault
@@ -36,16 +36,16 @@ returns-in-Ok-Value-clause-fault g t c =
     let room = rw c.in-Ok-Value.field-0-is at h.room in
     let l = c.args.layout.now in
     if_err c.take_values.result
-    (λ fault r. asked_reason l c.args.least (c.requires, c.if-least-layout.false) c.args.intake.now c.goes_on.new.self (g.I.Source.left c.args.input.now) (g.I.Source.left c.goes_on.new.input) (g.I.Source.left c.take_values.new.input) (g.I.Source.faults c.args.input.now) (g.I.Source.faults c.goes_on.new.input) (g.I.Source.faults c.take_values.new.input) fault a c.goes_on.ensures.told.later
-    (reason_behind (line_grammar (expect.Values l c.args.least) (c.requires, c.if-least-layout.false)) (line_code (expect.Values l c.args.least) (c.requires, c.if-least-layout.false)) (line.Value c.in-Ok-Value.mutex c.in-Ok-Value.field-0-1) taken.0
+    (λ fault r. asked_reason l c.args.least (c.requires, c.if-least-layout.false) c.args.intake.now c.goes_on.new.self (g.I.Source.left c.args.input.now) (g.I.Source.left c.goes_on.new.input) (g.I.Source.left c.take_values.new.input) (g.I.Source.faults c.args.input.now) (g.I.Source.faults c.goes_on.new.input) (g.I.Source.faults c.take_values.new.input) fault a c.goes_on.ensures.reported.later
+    (reason_after (line_grammar (expect.Values l c.args.least) (c.requires, c.if-least-layout.false)) (line_code (expect.Values l c.args.least) (c.requires, c.if-least-layout.false)) (line.Value c.in-Ok-Value.mutex c.in-Ok-Value.field-0-1) taken.0
     _ (rest_of c.take_line.new.intake (g.I.Source.left c.take_line.new.input)) _ _ _ (room_of c.take_line.new.intake) _ (g.I.Source.faults c.take_line.new.input) _
-    fault taken.1 room h.told.later (rw h.lines at r)))
+    fault taken.1 room h.reported.later (rw h.lines at r)))
     c.take_values.ensures.fault
 
 pub returns-in-Err-take_line-clause-fault : goal.returns-in-Err-take_line-clause-fault
 returns-in-Err-take_line-clause-fault g t c =
     let a = rw c.in-Ok-true.field-0-test at c.in-Ok-true.ensures.asked in
-    asked_reason c.args.layout.now c.args.least (c.requires, c.if-least-layout.false) c.args.intake.now c.goes_on.new.self (g.I.Source.left c.args.input.now) (g.I.Source.left c.goes_on.new.input) (g.I.Source.left c.take_line.new.input) (g.I.Source.faults c.args.input.now) (g.I.Source.faults c.goes_on.new.input) (g.I.Source.faults c.take_line.new.input) c.in-Err-take_line.fault a c.goes_on.ensures.told.later
+    asked_reason c.args.layout.now c.args.least (c.requires, c.if-least-layout.false) c.args.intake.now c.goes_on.new.self (g.I.Source.left c.args.input.now) (g.I.Source.left c.goes_on.new.input) (g.I.Source.left c.take_line.new.input) (g.I.Source.faults c.args.input.now) (g.I.Source.faults c.goes_on.new.input) (g.I.Source.faults c.take_line.new.input) c.in-Err-take_line.fault a c.goes_on.ensures.reported.later
     c.in-Err-take_line.ensures.fault
 
 pub returns-in-Ok-Value-clause-asks : goal.returns-in-Ok-Value-clause-asks
@@ -57,17 +57,17 @@ pub returns-in-Err-take_line-clause-asks : goal.returns-in-Err-take_line-clause-
 returns-in-Err-take_line-clause-asks g t c =
     value_asks c.args.layout.now c.args.least (c.requires, c.if-least-layout.false) c.args.intake.now c.goes_on.new.self c.goes_on.ensures.asks c.in-Err-take_line.ensures.asks_first
 
-pub returns-in-Ok-false-clause-told : goal.returns-in-Ok-false-clause-told
-returns-in-Ok-false-clause-told g t c = same_told _ _ _ c.in-Ok-false.ensures.told.unfailed
+pub returns-in-Ok-false-clause-reported : goal.returns-in-Ok-false-clause-reported
+returns-in-Ok-false-clause-reported g t c = same_reported _ _ _ c.in-Ok-false.ensures.reported.unfailed
 
-pub returns-in-Err-clause-told : goal.returns-in-Err-clause-told
-returns-in-Err-clause-told g t c = fault_told _ _ _ c.in-Err.fault refl c.in-Err.ensures.told
+pub returns-in-Err-clause-reported : goal.returns-in-Err-clause-reported
+returns-in-Err-clause-reported g t c = fault_reported _ _ _ c.in-Err.fault refl c.in-Err.ensures.reported
 
-pub returns-then-least-layout-clause-told : goal.returns-then-least-layout-clause-told
-returns-then-least-layout-clause-told g t c = same_told _ _ _ c.in-Ok-true.ensures.told.unfailed
+pub returns-then-least-layout-clause-reported : goal.returns-then-least-layout-clause-reported
+returns-then-least-layout-clause-reported g t c = same_reported _ _ _ c.in-Ok-true.ensures.reported.unfailed
 
-pub returns-in-Ok-Value-clause-told : goal.returns-in-Ok-Value-clause-told
-returns-in-Ok-Value-clause-told g t c = then_told _ _ _ c.take_values.result (c.in-Ok-Value.ensures.told.unfailed ∙ c.in-Ok-true.ensures.told.unfailed) c.take_values.ensures.told
+pub returns-in-Ok-Value-clause-reported : goal.returns-in-Ok-Value-clause-reported
+returns-in-Ok-Value-clause-reported g t c = then_reported _ _ _ c.take_values.result (c.in-Ok-Value.ensures.reported.unfailed ∙ c.in-Ok-true.ensures.reported.unfailed) c.take_values.ensures.reported
 
-pub returns-in-Err-take_line-clause-told : goal.returns-in-Err-take_line-clause-told
-returns-in-Err-take_line-clause-told g t c = fault_told _ _ _ c.in-Err-take_line.fault c.in-Ok-true.ensures.told.unfailed c.in-Err-take_line.ensures.told
+pub returns-in-Err-take_line-clause-reported : goal.returns-in-Err-take_line-clause-reported
+returns-in-Err-take_line-clause-reported g t c = fault_reported _ _ _ c.in-Err-take_line.fault c.in-Ok-true.ensures.reported.unfailed c.in-Err-take_line.ensures.reported

@@ -3,12 +3,12 @@ use Rattle.trace_core.specs.declared.line.Line.TheVariants as line
 use Rattle.trace_core.specs.declared.line.Expect.TheVariants as expect
 use Rattle.exact_text.specs.Intake.{rest_of, room_of}
 use Rattle.trace_core.specs.Text.{IsValues}
-use Rattle.exact_text.proofs.Texts.{reason_behind}
+use Rattle.exact_text.proofs.Texts.{reason_after}
 use Rattle.trace_core.proofs.LineLaws.{line_code}
 use Rattle.trace_core.proofs.Texts.{line_grammar}
 use Rattle.trace_core.proofs.Outcomes.{event_lacks, end_lacks}
 use Rattle.trace_core.proofs.Asking.{asked_or_not, event_asks, end_asks}
-use Rattle.exact_text.proofs.Told.{same_told, fault_told}
+use Rattle.exact_text.proofs.Reported.{same_reported, fault_reported}
 use Rattle.trace_core.proofs.sections.take_event.Goals as goal
 
 pub returns-in-Err-take_values-clause-fault : goal.returns-in-Err-take_values-clause-fault
@@ -16,9 +16,9 @@ returns-in-Err-take_values-clause-fault g c =
     let h = c.in-Ok-End.ensures in
     let taken = rw c.in-Ok-End.field-0-is at h.line in
     let room = rw c.in-Ok-End.field-0-is at h.room in
-    reason_behind (line_grammar (expect.Events c.args.layout.now c.args.place) (c.requires.lawful, omega (arith, c.requires.placed))) (line_code (expect.Events c.args.layout.now c.args.place) (c.requires.lawful, omega (arith, c.requires.placed))) line.End tt
+    reason_after (line_grammar (expect.Events c.args.layout.now c.args.place) (c.requires.lawful, omega (arith, c.requires.placed))) (line_code (expect.Events c.args.layout.now c.args.place) (c.requires.lawful, omega (arith, c.requires.placed))) line.End tt
     _ (rest_of c.take_line.new.intake (g.I.Source.left c.take_line.new.input)) _ _ _ (room_of c.take_line.new.intake) _ (g.I.Source.faults c.take_line.new.input) _
-    c.in-Err-take_values.fault taken.1 room h.told.later (rw h.lines at c.in-Err-take_values.ensures.fault)
+    c.in-Err-take_values.fault taken.1 room h.reported.later (rw h.lines at c.in-Err-take_values.ensures.fault)
 
 pub returns-in-Err-take_values-clause-lacks : goal.returns-in-Err-take_values-clause-lacks
 returns-in-Err-take_values-clause-lacks g c =
@@ -47,14 +47,14 @@ returns-in-Err-take_values-clause-asks g c =
 pub returns-in-Err-clause-asks : goal.returns-in-Err-clause-asks
 returns-in-Err-clause-asks g c = event_asks c.args.layout.now c.args.place (c.requires.lawful, omega (arith, c.requires.placed)) c.args.intake.now.window c.in-Err.ensures.asks_first
 
-pub returns-in-Ok-Event-clause-told : goal.returns-in-Ok-Event-clause-told
-returns-in-Ok-Event-clause-told g c = same_told _ _ _ c.in-Ok-Event.ensures.told.unfailed
+pub returns-in-Ok-Event-clause-reported : goal.returns-in-Ok-Event-clause-reported
+returns-in-Ok-Event-clause-reported g c = same_reported _ _ _ c.in-Ok-Event.ensures.reported.unfailed
 
-pub returns-in-Ok-take_values-clause-told : goal.returns-in-Ok-take_values-clause-told
-returns-in-Ok-take_values-clause-told g c = same_told _ _ _ (c.in-Ok-take_values.ensures.told.unfailed ∙ c.in-Ok-End.ensures.told.unfailed)
+pub returns-in-Ok-take_values-clause-reported : goal.returns-in-Ok-take_values-clause-reported
+returns-in-Ok-take_values-clause-reported g c = same_reported _ _ _ (c.in-Ok-take_values.ensures.reported.unfailed ∙ c.in-Ok-End.ensures.reported.unfailed)
 
-pub returns-in-Err-take_values-clause-told : goal.returns-in-Err-take_values-clause-told
-returns-in-Err-take_values-clause-told g c = fault_told _ _ _ c.in-Err-take_values.fault c.in-Ok-End.ensures.told.unfailed c.in-Err-take_values.ensures.told
+pub returns-in-Err-take_values-clause-reported : goal.returns-in-Err-take_values-clause-reported
+returns-in-Err-take_values-clause-reported g c = fault_reported _ _ _ c.in-Err-take_values.fault c.in-Ok-End.ensures.reported.unfailed c.in-Err-take_values.ensures.reported
 
-pub returns-in-Err-clause-told : goal.returns-in-Err-clause-told
-returns-in-Err-clause-told g c = fault_told _ _ _ c.in-Err.fault refl c.in-Err.ensures.told
+pub returns-in-Err-clause-reported : goal.returns-in-Err-clause-reported
+returns-in-Err-clause-reported g c = fault_reported _ _ _ c.in-Err.fault refl c.in-Err.ensures.reported

@@ -5,7 +5,7 @@ use Rattle.trace_check.specs.declared.checker.Summary.{Summary}
 use Rattle.trace_check.proofs.UnderWay.{head_fault, fault_on, fails_on, ends_on}
 use Rattle.trace_check.proofs.Prefixes.{event_line_some}
 use Rattle.trace_core.specs.Reader.{standing}
-use Rattle.trace_board.specs.Kept.{kept_of}
+use Rattle.trace_board.specs.Tracked.{tracked_of}
 use Rattle.trace_picture.specs.Picture.{head_text}
 use Rattle.larch_actions.specs.State.{spec_of}
 use Rattle.lock_order.proofs.Reading.{has_place}
@@ -30,16 +30,16 @@ cause_on a b n m v le near last = record { later = omega arith; failed = tt }
 
 pub returns-in-Err-clause-just : goal.returns-in-Err-clause-just
 returns-in-Err-clause-just g c =
-    rw c.refused.ensures (head_fault _ _ _ _ _ c.in-Err.fault (rw c.requires.lines at c.in-Err.ensures.fault.reason) c.in-Err.ensures.fault.lacks)
+    rw c.verdict_of.ensures (head_fault _ _ _ _ _ c.in-Err.fault (rw c.requires.lines at c.in-Err.ensures.fault.reason) c.in-Err.ensures.fault.lacks)
 
 pub returns-in-Err-clause-drawn : goal.returns-in-Err-clause-drawn
-returns-in-Err-clause-drawn g c = rw c.refused.ensures (headless_drawn _ _ _ _ c.in-Err.fault)
+returns-in-Err-clause-drawn g c = rw c.verdict_of.ensures (headless_drawn _ _ _ _ c.in-Err.fault)
 
 pub loop-free-init : goal.loop-free-init
 loop-free-init g c =
     let text : take c.add_head-at.result c.add_head-at.new.buf ≡ [] ++ head_text c.in-Ok.layout = c.add_head-at.ensures.text ∙ ap (λ x. x ++ head_text c.in-Ok.layout) (take_none c.args.buf.now) in
     record {
-      ringing = ringing_starts _ _ _ _ _ _ c.in-Ok.layout c.new-state.result c.args.view.now (g.O.Sink.held c.args.out.now) (take c.add_head-at.result c.add_head-at.new.buf) (kept_of c.new-board.result) c.args.view.now.ordered c.args.graph.now refl refl c.requires.lines c.in-Ok.ensures.head c.head.ensures.later c.new-state.ensures.layout c.new-state.ensures.first text c.new-board.ensures c.requires.empty;
+      ringing = ringing_starts _ _ _ _ _ _ c.in-Ok.layout c.new-state.result c.args.view.now (g.O.Sink.held c.args.out.now) (take c.add_head-at.result c.add_head-at.new.buf) (tracked_of c.new-board.result) c.args.view.now.ordered c.args.graph.now refl refl c.requires.lines c.in-Ok.ensures.head c.head.ensures.later c.new-state.ensures.layout c.new-state.ensures.first text c.new-board.ensures c.requires.empty;
       laid = sym c.in-Ok.ensures.head.layout;
       within = omega (arith, c.add_head-at.ensures.near, c.requires.large, c.add_head-at.auto.buf);
       same_input = c.head.ensures.same_input;
@@ -69,7 +69,7 @@ loop-free-preserved g c =
     let taken = rw c.in-Ok-Some.field-0-is at (c.in-Ok-Some.ensures.event u.phase) in
     let d = ringing_room _ _ _ _ _ _ _ _ _ _ _ _ _ _ i.ringing (g.O.Sink.held c.make_room.new.out) (take c.in-Ok-make_room.free c.loop-free.buf) c.in-Ok-make_room.ensures.ok in
     record {
-      ringing = ringing_steps _ _ _ _ _ _ _ _ _ _ _ _ _ _ d _ _ c.apply.new.self c.in-Ok-Some.event (take c.add_step-at.result c.add_step-at.new.buf) (kept_of c.add_step-at.new.board) c.note_if.new.graph c.in-Ok.layout i.laid fits taken c.in-Ok-apply.ensures.ok c.apply.ensures.layout c.next_event.ensures.later c.add_step-at.ensures.text c.add_step-at.ensures.kept c.note_if.ensures;
+      ringing = ringing_steps _ _ _ _ _ _ _ _ _ _ _ _ _ _ d _ _ c.apply.new.self c.in-Ok-Some.event (take c.add_step-at.result c.add_step-at.new.buf) (tracked_of c.add_step-at.new.board) c.note_if.new.graph c.in-Ok.layout i.laid fits taken c.in-Ok-apply.ensures.ok c.apply.ensures.layout c.next_event.ensures.later c.add_step-at.ensures.text c.add_step-at.ensures.kept c.note_if.ensures;
       laid = i.laid ∙ sym taken.layout;
       within = omega (arith, c.add_step-at.ensures.near, c.in-Ok-make_room.ensures.room, c.add_step-at.auto.buf);
       same_input = c.next_event.ensures.same_input ∙ i.same_input;
@@ -91,7 +91,7 @@ pub returns-in-Ok-end_failed-clause-just : goal.returns-in-Ok-end_failed-clause-
 returns-in-Ok-end_failed-clause-just g c =
     let u = c.loop-free.invariant.ringing.drawing.under_way in
     let taken = rw c.in-Ok-Some.field-0-is at (c.in-Ok-Some.ensures.event u.phase) in
-    fails_on _ _ _ _ _ _ _ _ c.in-Ok-Some.event c.in-Err-apply.why u taken c.in-Err-apply.ensures.refused
+    fails_on _ _ _ _ _ _ _ _ c.in-Ok-Some.event c.in-Err-apply.why u taken c.in-Err-apply.ensures.verdict_of
 
 pub returns-in-Ok-end_failed-clause-drawn : goal.returns-in-Ok-end_failed-clause-drawn
 returns-in-Ok-end_failed-clause-drawn g c =
@@ -99,7 +99,7 @@ returns-in-Ok-end_failed-clause-drawn g c =
     let d = drawing_room _ _ _ _ _ _ _ _ _ _ _ _ i.ringing.drawing (g.O.Sink.held c.make_room.new.out) (take c.in-Ok-make_room.free c.loop-free.buf) c.in-Ok-make_room.ensures.ok in
     let u = c.loop-free.invariant.ringing.drawing.under_way in
     let taken = rw c.in-Ok-Some.field-0-is at (c.in-Ok-Some.ensures.event u.phase) in
-    failed_got _ _ _ _ _ _ _ _ _ _ _ _ _ d _ (g.O.Sink.held c.end_failed.new.out) c.in-Ok.layout c.in-Ok-Some.event c.in-Err-apply.why i.laid taken c.in-Err-apply.ensures.refused refl c.in-Ok-end_failed.ensures.ok
+    failed_got _ _ _ _ _ _ _ _ _ _ _ _ _ d _ (g.O.Sink.held c.end_failed.new.out) c.in-Ok.layout c.in-Ok-Some.event c.in-Err-apply.why i.laid taken c.in-Err-apply.ensures.verdict_of refl c.in-Ok-end_failed.ensures.ok
 
 pub returns-in-Err-end_failed-clause-cut_off : goal.returns-in-Err-end_failed-clause-cut_off
 returns-in-Err-end_failed-clause-cut_off g c =
@@ -139,13 +139,13 @@ pub returns-in-Ok-end_cut-clause-just : goal.returns-in-Ok-end_cut-clause-just
 returns-in-Ok-end_cut-clause-just g c =
     let fits : (standing g.I.Source.left c.args.reader.now).room < 2 ^ 64 - 1 = omega (arith, c.requires.fits) in
     let u = c.loop-free.invariant.ringing.drawing.under_way in
-    rw c.refused-in-Ok-end_cut.ensures (fault_on _ _ _ _ _ _ _ _ _ _ c.in-Err-next_event.broken fits u (c.in-Err-next_event.ensures.fault u.phase))
+    rw c.verdict_of-in-Ok-end_cut.ensures (fault_on _ _ _ _ _ _ _ _ _ _ c.in-Err-next_event.broken fits u (c.in-Err-next_event.ensures.fault u.phase))
 
 pub returns-in-Ok-end_cut-clause-drawn : goal.returns-in-Ok-end_cut-clause-drawn
 returns-in-Ok-end_cut-clause-drawn g c =
     let i = c.loop-free.invariant in
     let d = drawing_room _ _ _ _ _ _ _ _ _ _ _ _ i.ringing.drawing (g.O.Sink.held c.make_room.new.out) (take c.in-Ok-make_room.free c.loop-free.buf) c.in-Ok-make_room.ensures.ok in
-    rw c.refused-in-Ok-end_cut.ensures (refused_got _ _ _ _ _ _ _ _ _ _ _ _ d _ (g.O.Sink.held c.end_cut.new.out) c.in-Ok.layout i.laid c.in-Err-next_event.broken refl c.in-Ok-end_cut.ensures.ok)
+    rw c.verdict_of-in-Ok-end_cut.ensures (refused_got _ _ _ _ _ _ _ _ _ _ _ _ d _ (g.O.Sink.held c.end_cut.new.out) c.in-Ok.layout i.laid c.in-Err-next_event.broken refl c.in-Ok-end_cut.ensures.ok)
 
 pub returns-in-Err-end_cut-clause-cut_off : goal.returns-in-Err-end_cut-clause-cut_off
 returns-in-Err-end_cut-clause-cut_off g c =

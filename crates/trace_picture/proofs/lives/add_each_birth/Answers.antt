@@ -1,5 +1,5 @@
 use Rattle.std.proofs.Common.{ℕ, List, ◌+◌, ◌++◌, take, ap, sym, ◌∙◌, append-nil, arith}
-use Rattle.trace_board.specs.Kept.{kept_of, forked_by}
+use Rattle.trace_board.specs.Tracked.{tracked_of, forked_by}
 use Rattle.trace_shapes.specs.Shapes.{each_below}
 use Rattle.trace_picture.specs.Lives.{birth_if}
 use Rattle.trace_shapes.proofs.Added.{each_more, each_none, added_more}
@@ -7,13 +7,13 @@ use Rattle.trace_picture.proofs.lives.add_each_birth.Goals as goal
 
 pub loop-t-init : goal.loop-t-init
 loop-t-init c =
-    let f : ℕ → List ℕ = (λ t. birth_if c.args.band.now c.args.to t (forked_by (kept_of c.args.board.now) t)) in
+    let f : ℕ → List ℕ = (λ t. birth_if c.args.band.now c.args.to t (forked_by (tracked_of c.args.board.now) t)) in
     let old = take c.args.at c.args.buf.now in
     record { text = sym (ap (λ l. old ++ l) (each_none f) ∙ append-nil old); near = omega arith }
 
 pub loop-t-preserved : goal.loop-t-preserved
 loop-t-preserved c =
-    let f : ℕ → List ℕ = (λ t. birth_if c.args.band.now c.args.to t (forked_by (kept_of c.args.board.now) t)) in
+    let f : ℕ → List ℕ = (λ t. birth_if c.args.band.now c.args.to t (forked_by (tracked_of c.args.board.now) t)) in
     let old = take c.args.at c.args.buf.now in
     record {
       text = added_more old (take c.loop-t.last c.loop-t.buf) _ (each_below f c.loop-t.t) (f c.loop-t.t) (each_below f (c.loop-t.t + 1)) c.loop-t.invariant.text (c.add_birth_if-last.ensures.text ∙ ap (λ o. take c.loop-t.last c.loop-t.buf ++ birth_if c.args.band.now c.args.to c.loop-t.t o) c.forked_by.ensures) (sym (each_more f c.loop-t.t));

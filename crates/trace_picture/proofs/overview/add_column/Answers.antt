@@ -1,6 +1,6 @@
 use Rattle.std.proofs.Common.{◌+◌, ◌*◌, ◌/◌, [], ◌++◌, take, ◌∙◌}
 use Rattle.std.specs.Prelude.{codes}
-use Rattle.trace_board.specs.Kept.{kept_of}
+use Rattle.trace_board.specs.Tracked.{tracked_of}
 use Rattle.trace_shapes.specs.Shapes.{each_below}
 use Rattle.trace_picture.specs.Overview.{over_x, ran_cell, held_cell, link_text, column_text}
 use Rattle.trace_shapes.proofs.Added.{added_four}
@@ -11,7 +11,7 @@ unfolding column_text
 returns-clause-text c =
     let old = take c.args.at c.args.buf.now in
     let l = c.args.layout.now in
-    let k = kept_of c.args.board.now in
+    let k = tracked_of c.args.board.now in
     let band = c.args.band in
     let start = c.args.start in
     let high = c.height_of_columns.ensures.height in

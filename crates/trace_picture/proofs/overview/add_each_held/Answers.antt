@@ -1,5 +1,5 @@
 use Rattle.std.proofs.Common.{ℕ, List, ◌+◌, ◌++◌, take, ap, sym, ◌∙◌, append-nil, arith}
-use Rattle.trace_board.specs.Kept.{kept_of}
+use Rattle.trace_board.specs.Tracked.{tracked_of}
 use Rattle.trace_shapes.specs.Shapes.{each_below}
 use Rattle.trace_picture.specs.Overview.{held_cell}
 use Rattle.trace_shapes.proofs.Added.{each_more, each_none, added_more}
@@ -7,13 +7,13 @@ use Rattle.trace_picture.proofs.overview.add_each_held.Goals as goal
 
 pub loop-m-init : goal.loop-m-init
 loop-m-init c =
-    let f : ℕ → List ℕ = held_cell (kept_of c.args.board.now) c.args.start c.args.x c.args.y in
+    let f : ℕ → List ℕ = held_cell (tracked_of c.args.board.now) c.args.start c.args.x c.args.y in
     let old = take c.args.at c.args.buf.now in
     record { text = sym (ap (λ l. old ++ l) (each_none f) ∙ append-nil old); near = omega arith }
 
 pub loop-m-preserved : goal.loop-m-preserved
 loop-m-preserved c =
-    let f : ℕ → List ℕ = held_cell (kept_of c.args.board.now) c.args.start c.args.x c.args.y in
+    let f : ℕ → List ℕ = held_cell (tracked_of c.args.board.now) c.args.start c.args.x c.args.y in
     let old = take c.args.at c.args.buf.now in
     record {
       text = added_more old (take c.loop-m.last c.loop-m.buf) _ (each_below f c.loop-m.m) (f c.loop-m.m) (each_below f (c.loop-m.m + 1)) c.loop-m.invariant.text c.add_held-last.ensures.text (sym (each_more f c.loop-m.m));

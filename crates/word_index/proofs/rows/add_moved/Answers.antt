@@ -33,18 +33,18 @@ loop-place-preserved c = record {
 pub push_reserved-requires : goal.push_reserved-requires
 push_reserved-requires c = omega (arith, c.loop-place.invariant.room)
 
--- so many places behind what was there before the room was made
-moved_behind : (before old out places : List Place) → old ≡ before → out ≡ old ++ places → out ≡ before ++ places
-moved_behind before old out places same is = is ∙ ap (λ (l : List Place). l ++ places) same
+-- so many places after what was there before the room was made
+moved_after : (before old out places : List Place) → old ≡ before → out ≡ old ++ places → out ≡ before ++ places
+moved_after before old out places same is = is ∙ ap (λ (l : List Place). l ++ places) same
 
 pub returns-clause-kept : goal.returns-clause-kept
 returns-clause-kept c =
     let old = c.args.out.now.items in
     let places = map (moved c.args.numbers.now) (take c.loop-place.place-index c.args.row.now) in
-    ap (take (length old)) (moved_behind old c.reserve.new.self.items c.loop-place.out.items places c.reserve.ensures.items c.loop-place.invariant.is) ∙ take-append-le (length old) old places (omega arith) ∙ take-length old
+    ap (take (length old)) (moved_after old c.reserve.new.self.items c.loop-place.out.items places c.reserve.ensures.items c.loop-place.invariant.is) ∙ take-append-le (length old) old places (omega arith) ∙ take-length old
 
 pub returns-clause-ok : goal.returns-clause-ok
 returns-clause-ok c =
     let places = map (moved c.args.numbers.now) (take c.loop-place.place-index c.args.row.now) in
-    moved_behind c.args.out.now.items c.reserve.new.self.items c.loop-place.out.items places c.reserve.ensures.items c.loop-place.invariant.is
+    moved_after c.args.out.now.items c.reserve.new.self.items c.loop-place.out.items places c.reserve.ensures.items c.loop-place.invariant.is
     ∙ ap (λ (l : List Place). c.args.out.now.items ++ map (moved c.args.numbers.now) l) (take_all c.loop-place.place-index c.args.row.now (omega arith))

@@ -1,23 +1,23 @@
 use Rattle.std.proofs.Common.{◌+◌, take, arith, length-take, refl}
 use Rattle.exact_text.specs.declared.intake.Intake.{Intake}
-use Rattle.exact_text.proofs.Told.{same_told, read_told}
+use Rattle.exact_text.proofs.Reported.{same_reported, read_reported}
 use Rattle.exact_text.proofs.Filled.{filled, kept_by_none, still_within}
 use Rattle.exact_text.proofs.intake.Intake.fill.Goals as goal
 
-pub returns-in-Err-clause-told : goal.returns-in-Err-clause-told
-returns-in-Err-clause-told g c = read_told _ _ c.in-Err.ensures.cause.later
+pub returns-in-Err-clause-reported : goal.returns-in-Err-clause-reported
+returns-in-Err-clause-reported g c = read_reported _ _ c.in-Err.ensures.cause.later
 
-pub returns-in-Ok-clause-told : goal.returns-in-Ok-clause-told
-returns-in-Ok-clause-told g c = same_told _ _ _ c.in-Ok.ensures.unfailed
+pub returns-in-Ok-clause-reported : goal.returns-in-Ok-clause-reported
+returns-in-Ok-clause-reported g c = same_reported _ _ _ c.in-Ok.ensures.unfailed
 
-pub returns-in-Err-next-clause-told : goal.returns-in-Err-next-clause-told
-returns-in-Err-next-clause-told g c = read_told _ _ c.in-Err-next.ensures.cause.later
+pub returns-in-Err-next-clause-reported : goal.returns-in-Err-next-clause-reported
+returns-in-Err-next-clause-reported g c = read_reported _ _ c.in-Err-next.ensures.cause.later
 
-pub returns-in-Ok-eq0-clause-told : goal.returns-in-Ok-eq0-clause-told
-returns-in-Ok-eq0-clause-told g c = same_told _ _ _ c.in-Ok-eq0.ensures.unfailed
+pub returns-in-Ok-eq0-clause-reported : goal.returns-in-Ok-eq0-clause-reported
+returns-in-Ok-eq0-clause-reported g c = same_reported _ _ _ c.in-Ok-eq0.ensures.unfailed
 
-pub returns-in-Ok-next-clause-told : goal.returns-in-Ok-next-clause-told
-returns-in-Ok-next-clause-told g c = same_told _ _ _ c.in-Ok-next.ensures.unfailed
+pub returns-in-Ok-next-clause-reported : goal.returns-in-Ok-next-clause-reported
+returns-in-Ok-next-clause-reported g c = same_reported _ _ _ c.in-Ok-next.ensures.unfailed
 
 pub invariant_of-self-in-Ok : goal.invariant_of-self-in-Ok
 invariant_of-self-in-Ok g c =

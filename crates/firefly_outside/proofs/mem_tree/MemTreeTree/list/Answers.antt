@@ -19,21 +19,21 @@ listing c =
 pub returns-in-Ok-push-clause-lawful : goal.returns-in-Ok-push-clause-lawful
 returns-in-Ok-push-clause-lawful c = (listing c).0
 
-pub returns-in-Ok-push-clause-told : goal.returns-in-Ok-push-clause-told
-returns-in-Ok-push-clause-told c = ((listing c).1, ap with_listed (c.in-Ok-push.ensures.items ∙ ap (λ (p : Path). c.args.self.now.listed.items ++ p ∷ []) c.in-Ok.ensures))
+pub returns-in-Ok-push-clause-reported : goal.returns-in-Ok-push-clause-reported
+returns-in-Ok-push-clause-reported c = ((listing c).1, ap with_listed (c.in-Ok-push.ensures.items ∙ ap (λ (p : Path). c.args.self.now.listed.items ++ p ∷ []) c.in-Ok.ensures))
   where
     with_listed : List Path → Calls
     with_listed l = record { listed = l; files_read = c.args.self.now.files_read.items; failed = c.args.self.now.failed.items }
 
-pub returns-in_default-get-clause-told : goal.returns-in_default-get-clause-told
-returns-in_default-get-clause-told c = lists_fault {V = Vec Entry Global} (λ (v : Vec Entry Global). v.items) c.args.self.now c.fail-in_default-get.new.self c.args.dir.now c.in-Ok.path c.fail-in_default-get.result c.fail-in_default-get.ensures c.in-Ok.ensures
+pub returns-in_default-get-clause-reported : goal.returns-in_default-get-clause-reported
+returns-in_default-get-clause-reported c = lists_fault {V = Vec Entry Global} (λ (v : Vec Entry Global). v.items) c.args.self.now c.fail-in_default-get.new.self c.args.dir.now c.in-Ok.path c.fail-in_default-get.result c.fail-in_default-get.ensures c.in-Ok.ensures
     (elim c.in_default-get.branch [ in_default-get-via-in-Some+in_default w ↦ inr (λ h. search rules) | in_default-get-via-in_default w ↦ inr (λ h. search rules) ])
 
 pub returns-in_default-get-clause-count : goal.returns-in_default-get-clause-count
 returns-in_default-get-clause-count c = counts_fault (Vec Entry Global) c.args.self.now c.fail-in_default-get.new.self c.in-Ok.path c.fail-in_default-get.result c.fail-in_default-get.ensures
 
-pub returns-then-is_weak-clause-told : goal.returns-then-is_weak-clause-told
-returns-then-is_weak-clause-told c = lists_fault {V = Vec Entry Global} (λ (v : Vec Entry Global). v.items) c.args.self.now c.fail.new.self c.args.dir.now c.in-Ok.path c.fail.result c.fail.ensures c.in-Ok.ensures (inl (c.is_weak.ensures.0 c.if-is_weak.true))
+pub returns-then-is_weak-clause-reported : goal.returns-then-is_weak-clause-reported
+returns-then-is_weak-clause-reported c = lists_fault {V = Vec Entry Global} (λ (v : Vec Entry Global). v.items) c.args.self.now c.fail.new.self c.args.dir.now c.in-Ok.path c.fail.result c.fail.ensures c.in-Ok.ensures (inl (c.is_weak.ensures.0 c.if-is_weak.true))
 
 pub returns-then-is_weak-clause-count : goal.returns-then-is_weak-clause-count
 returns-then-is_weak-clause-count c = counts_fault (Vec Entry Global) c.args.self.now c.fail.new.self c.in-Ok.path c.fail.result c.fail.ensures

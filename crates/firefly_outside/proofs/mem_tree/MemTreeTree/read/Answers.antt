@@ -8,8 +8,8 @@ use Rattle.firefly_outside.proofs.Failing.{counts_fault, reads_fault, not_weak}
 use Rattle.firefly_outside.proofs.mem_tree.MemTreeTree.read.Goals as goal
 use Rattle.firefly_outside.proofs.mem_tree.MemTreeTree.read.Goals.{in_default-get-via-in-Some+in_default, in_default-get-via-in_default}
 
-pub returns-in-Ok-push-clause-told : goal.returns-in-Ok-push-clause-told
-returns-in-Ok-push-clause-told c =
+pub returns-in-Ok-push-clause-reported : goal.returns-in-Ok-push-clause-reported
+returns-in-Ok-push-clause-reported c =
     let here : tree_of c.args.self.now c.in-Ok.path ≡ Some (Bytes c.in-Some-File.bytes.items) = sym (ap (option_map node_of) c.in-Some-File.ensures.value) ∙ ap (λ p. Some (node_of p)) c.in-Some-File.field-0-is in (
       record {
         bytes = c.in-Some-File.bytes.items;
@@ -22,15 +22,15 @@ returns-in-Ok-push-clause-told c =
     with_read : List Path → Calls
     with_read l = record { listed = c.args.self.now.listed.items; files_read = l; failed = c.args.self.now.failed.items }
 
-pub returns-in_default-get-clause-told : goal.returns-in_default-get-clause-told
-returns-in_default-get-clause-told c = reads_fault c.args.self.now c.fail-in_default-get.new.self c.args.path.now c.in-Ok.path c.fail-in_default-get.result c.fail-in_default-get.ensures c.in-Ok.ensures
+pub returns-in_default-get-clause-reported : goal.returns-in_default-get-clause-reported
+returns-in_default-get-clause-reported c = reads_fault c.args.self.now c.fail-in_default-get.new.self c.args.path.now c.in-Ok.path c.fail-in_default-get.result c.fail-in_default-get.ensures c.in-Ok.ensures
     (elim c.in_default-get.branch [ in_default-get-via-in-Some+in_default w ↦ inr (λ h. search rules) | in_default-get-via-in_default w ↦ inr (λ h. search rules) ])
 
 pub returns-in_default-get-clause-count : goal.returns-in_default-get-clause-count
 returns-in_default-get-clause-count c = counts_fault FileBytes c.args.self.now c.fail-in_default-get.new.self c.in-Ok.path c.fail-in_default-get.result c.fail-in_default-get.ensures
 
-pub returns-then-is_weak-clause-told : goal.returns-then-is_weak-clause-told
-returns-then-is_weak-clause-told c = reads_fault c.args.self.now c.fail.new.self c.args.path.now c.in-Ok.path c.fail.result c.fail.ensures c.in-Ok.ensures (inl (c.is_weak.ensures.0 c.if-is_weak.true))
+pub returns-then-is_weak-clause-reported : goal.returns-then-is_weak-clause-reported
+returns-then-is_weak-clause-reported c = reads_fault c.args.self.now c.fail.new.self c.args.path.now c.in-Ok.path c.fail.result c.fail.ensures c.in-Ok.ensures (inl (c.is_weak.ensures.0 c.if-is_weak.true))
 
 pub returns-then-is_weak-clause-count : goal.returns-then-is_weak-clause-count
 returns-then-is_weak-clause-count c = counts_fault FileBytes c.args.self.now c.fail.new.self c.in-Ok.path c.fail.result c.fail.ensures

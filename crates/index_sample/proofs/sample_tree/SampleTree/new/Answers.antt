@@ -1,5 +1,5 @@
-use Rattle.index_sample.proofs.ToldLemmas.{told_sample}
+use Rattle.index_sample.proofs.ReportedLemmas.{reported_sample}
 use Rattle.index_sample.proofs.sample_tree.SampleTree.new.Goals as goal
 
 pub returns-clause-tree : goal.returns-clause-tree
-returns-clause-tree c = told_sample c.args.seed c.args.files c.requires
+returns-clause-tree c = reported_sample c.args.seed c.args.files c.requires

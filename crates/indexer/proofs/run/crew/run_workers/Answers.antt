@@ -5,7 +5,7 @@ use lib.ListN.{get_elem?}
 use Rattle.indexer.specs.declared.job.Job.{Job}
 use Rattle.indexer.specs.Turns.{Worker}
 use Rattle.indexer.proofs.CrewBack.{as_many, to_map, all_worked}
-use Rattle.indexer.proofs.RunLaws.{at_first, behind_first}
+use Rattle.indexer.proofs.RunLaws.{at_first, past_first}
 use Rattle.indexer.proofs.TreesLaws.{left_same, left_there, on_err_if}
 use Rattle.indexer.proofs.run.crew.run_workers.Goals as goal
 
@@ -16,7 +16,7 @@ run_jobs-requires-clause-caller g c κs within =
 
 pub run_jobs-requires-clause-jobs : goal.run_jobs-requires-clause-jobs
 run_jobs-requires-clause-jobs g c κs within = λ n x at.
-    c.requires.threads (suc n) x.me (behind_first c.args.threads.items n x.me
+    c.requires.threads (suc n) x.me (past_first c.args.threads.items n x.me
     (ap (λ (l : List Worker). get_elem? l n) (sym (c.in-Ok.ensures.jobs.made ∙ c.remove-caller.ensures.items)) ∙ to_map (λ (j : Job g.row.S.Denot). j.me) c.in-Ok.jobs.items n x at))
 
 pub put_back-requires-clause-room : goal.put_back-requires-clause-room
@@ -43,7 +43,7 @@ returns-clause-crew g c =
     let own = c.in-Ok.ensures.jobs in
     let ran = c.in_ok-jobs.ensures in
     let put = c.put_back.ensures in
-    let behind = map (λ (j : Job g.row.S.Denot). j.me) back.items in
+    let following = map (λ (j : Job g.row.S.Denot). j.me) back.items in
     let others = own.made ∙ c.remove-caller.ensures.items in
     let long = length-map back.items (λ (j : Job g.row.S.Denot). j.me) in
     record {
@@ -51,7 +51,7 @@ returns-clause-crew g c =
       is_caller = at_first threads c.remove-caller.result c.requires.caller c.remove-caller.ensures.value;
       last = caller;
       called = ran.caller;
-      back = behind;
+      back = following;
       is_all = put.threads;
       many = long ∙ ran.jobs ∙ as_many jobs (remove threads 0) others;
       found = ran.findings ∙ sym (long ∙ ran.jobs);

@@ -5,7 +5,7 @@ use Rattle.indexer.specs.States.{HasMerged}
 use Rattle.indexer.proofs.MergeShares.{apart_more, ended_share, lost_share, merged_share}
 use Rattle.std.specs.Prelude.{All}
 use Rattle.std.proofs.lemmas.List.Elements.{All-cons, All-head, All-nil, All-tail}
-use Rattle.firefly_outside.specs.Trees.{Path, Told}
+use Rattle.firefly_outside.specs.Trees.{Path, Contents}
 use Rattle.word_index.specs.Index.{Index}
 use Rattle.index_findings.specs.Pieces.{IsFilesPiece}
 use Rattle.indexer.specs.Taken.{piece_in}
@@ -18,7 +18,7 @@ prefix P [] ys h = All-nil P
 prefix P (x ∷ xs) ys h = All-cons P x xs (All-head P x (xs ++ ys) h) (prefix P xs ys (All-tail P x (xs ++ ys) h))
 
 -- what a later call gives is let go
-without : (o : Option Told) (root : Path) (ps qs : List Index) (p : Run) (a b c : Worker) → HasCalled o root ps p 0 0 a b → HasCalled o root qs p 0 0 b c → HasCalled o root ps p 0 0 a c
+without : (o : Option Contents) (root : Path) (ps qs : List Index) (p : Run) (a b c : Worker) → HasCalled o root ps p 0 0 a b → HasCalled o root qs p 0 0 b c → HasCalled o root ps p 0 0 a c
 without o root ps qs p a b c first second = called_as o root (ps ++ qs) ps p 0 0 a c (prefix (IsFilesPiece o root) ps qs) (called_on o root ps qs p 0 0 0 a b c first second)
 
 pub keep-requires : goal.keep-requires

@@ -6,7 +6,7 @@ use Rattle.nub_rule.specs.Parts.{made, MayTell}
 use Rattle.nub_rule.specs.Places.{alert_at, most_threads}
 use Rattle.nub_rule.specs.Plays.{test_alert_event}
 use Rattle.nub_rule.proofs.Seen.{as_known}
-use Rattle.nub_rule.proofs.AtHand.{told_fits, told_event}
+use Rattle.nub_rule.proofs.AtHand.{recorded_fits, recorded_event}
 use Rattle.nub_rule.proofs.AlertSteps.{swap_alert_keeps}
 use Rattle.nub_rule.proofs.steps.alert.swap_alert.Goals as goal
 
@@ -19,7 +19,7 @@ swap-requires-clause-allowed g c κs within = let i = c.me.invariant in let trac
 
 pub invariant_of-me : goal.invariant_of-me
 invariant_of-me g c = let u = c.swap.ensures.2 in
-    told_fits (λ n. test_alert_event n (eqb c.swap.result 1)) (λ q. record q { alerted = false }) _ _ c.me.inside.number c.me.inside.hand c.me.inside.seat.me c.swap.new.seat.me (u.2, u.3, u.4) c.swap.ensures.0 c.me.invariant (λ q. refl) (λ q. refl) (λ q. refl) (λ q. refl) (λ q. refl)
+    recorded_fits (λ n. test_alert_event n (eqb c.swap.result 1)) (λ q. record q { alerted = false }) _ _ c.me.inside.number c.me.inside.hand c.me.inside.seat.me c.swap.new.seat.me (u.2, u.3, u.4) c.swap.ensures.0 c.me.invariant (λ q. refl) (λ q. refl) (λ q. refl) (λ q. refl) (λ q. refl)
 
 pub returns-clause-flag : goal.returns-clause-flag
 returns-clause-flag g c = c.swap.ensures.2.0
@@ -29,7 +29,7 @@ returns-clause-seen g c = λ saw. c.swap.ensures.2.1 (ap (λ k. k.alerted) c.me.
 
 pub returns-clause-event : goal.returns-clause-event
 returns-clause-event g c = let u = c.swap.ensures.2 in
-    told_event (λ n. test_alert_event n (eqb c.swap.result 1)) (λ q. record q { alerted = false }) _ _ c.me.inside.number _ _ c.me.inside.seat.me c.swap.new.seat.me c.args.me.now (u.2, u.3, u.4) c.me.view_is c.swap.ensures.0 c.me.invariant.numbered (λ q. refl) (λ q. refl) (λ q. refl)
+    recorded_event (λ n. test_alert_event n (eqb c.swap.result 1)) (λ q. record q { alerted = false }) _ _ c.me.inside.number _ _ c.me.inside.seat.me c.swap.new.seat.me c.args.me.now (u.2, u.3, u.4) c.me.view_is c.swap.ensures.0 c.me.invariant.numbered (λ q. refl) (λ q. refl) (λ q. refl)
 
 pub returns-clause-cleared : goal.returns-clause-cleared
 returns-clause-cleared g c = as_known (λ z m a. let k = known_as z c.me.inside.number m c.me.inside.entries.items c.me.inside.lost c.me.inside.next in k ≡ record a { seen = k.seen; mine = k.mine; places = k.places; alerted = false; pen = made a.pen }) _ _ _ _ _ c.me.inside.seat.me _ _ _ c.me.view_is c.swap.ensures.0 c.swap.ensures.2.4 refl

@@ -6,7 +6,7 @@ use Rattle.nub_rule.specs.Parts.{made, MayTell}
 use Rattle.nub_rule.specs.Places.{alert_at, most_threads}
 use Rattle.nub_rule.specs.Plays.{alert_p_raise_event}
 use Rattle.nub_rule.proofs.Seen.{as_known}
-use Rattle.nub_rule.proofs.AtHand.{told_fits, told_event}
+use Rattle.nub_rule.proofs.AtHand.{recorded_fits, recorded_event}
 use Rattle.nub_rule.proofs.AlertSteps.{swap_alert_in_p_keeps}
 use Rattle.nub_rule.proofs.steps.alert.swap_alert_in_p.Goals as goal
 
@@ -19,14 +19,14 @@ fetch_and-requires-clause-allowed g c κs within = let i = c.me.invariant in let
 
 pub invariant_of-me : goal.invariant_of-me
 invariant_of-me g c = let u = c.fetch_and.ensures.2 c.args.s.0 refl in
-    told_fits (λ n. alert_p_raise_event n c.args.s.0) (λ q. record q { alerted = false }) _ _ c.me.inside.number c.me.inside.hand c.me.inside.seat.me c.fetch_and.new.seat.me (u.1, u.2, u.3) c.fetch_and.ensures.0 c.me.invariant (λ q. refl) (λ q. refl) (λ q. refl) (λ q. refl) (λ q. refl)
+    recorded_fits (λ n. alert_p_raise_event n c.args.s.0) (λ q. record q { alerted = false }) _ _ c.me.inside.number c.me.inside.hand c.me.inside.seat.me c.fetch_and.new.seat.me (u.1, u.2, u.3) c.fetch_and.ensures.0 c.me.invariant (λ q. refl) (λ q. refl) (λ q. refl) (λ q. refl) (λ q. refl)
 
 pub returns-clause-found : goal.returns-clause-found
 returns-clause-found g c = (c.fetch_and.ensures.2 c.args.s.0 refl).0
 
 pub returns-clause-event : goal.returns-clause-event
 returns-clause-event g c = let u = c.fetch_and.ensures.2 c.args.s.0 refl in
-    told_event (λ n. alert_p_raise_event n c.args.s.0) (λ q. record q { alerted = false }) _ _ c.me.inside.number _ _ c.me.inside.seat.me c.fetch_and.new.seat.me c.args.me.now (u.1, u.2, u.3) c.me.view_is c.fetch_and.ensures.0 c.me.invariant.numbered (λ q. refl) (λ q. refl) (λ q. refl)
+    recorded_event (λ n. alert_p_raise_event n c.args.s.0) (λ q. record q { alerted = false }) _ _ c.me.inside.number _ _ c.me.inside.seat.me c.fetch_and.new.seat.me c.args.me.now (u.1, u.2, u.3) c.me.view_is c.fetch_and.ensures.0 c.me.invariant.numbered (λ q. refl) (λ q. refl) (λ q. refl)
 
 pub returns-clause-cleared : goal.returns-clause-cleared
 returns-clause-cleared g c = as_known (λ z m a. let k = known_as z c.me.inside.number m c.me.inside.entries.items c.me.inside.lost c.me.inside.next in k ≡ record a { seen = k.seen; mine = k.mine; places = k.places; alerted = false; pen = made a.pen }) _ _ _ _ _ c.me.inside.seat.me _ _ _ c.me.view_is c.fetch_and.ensures.0 (c.fetch_and.ensures.2 c.args.s.0 refl).3 refl

@@ -6,7 +6,7 @@ use Rattle.nub_rule.specs.Parts.{made, MayTell}
 use Rattle.nub_rule.specs.Plays.{event, broadcast_action}
 use Rattle.nub_rule.proofs.Naming.{cond_low}
 use Rattle.nub_rule.proofs.Seen.{as_known}
-use Rattle.nub_rule.proofs.AtHand.{told_fits, told_event}
+use Rattle.nub_rule.proofs.AtHand.{recorded_fits, recorded_event}
 use Rattle.nub_rule.proofs.CondSteps.{advance_broadcast_keeps}
 use Rattle.nub_rule.proofs.steps.cond.advance_broadcast.Goals as goal
 
@@ -19,14 +19,14 @@ fetch_add-requires-clause-allowed g c κs within = let near = cond_low _ _ _ _ c
 
 pub invariant_of-me : goal.invariant_of-me
 invariant_of-me g c = let u = c.fetch_add.ensures.2 c.args.c.0 c.count_word.ensures in
-    told_fits (λ n. event n (broadcast_action c.args.c.0 [])) (λ q. record q { left = []; count = q.count + 1; calling = None }) _ _ c.me.inside.number c.me.inside.hand c.me.inside.seat.me c.fetch_add.new.seat.me (u.2, u.3, u.4) c.fetch_add.ensures.0 c.me.invariant (λ q. refl) (λ q. refl) (λ q. refl) (λ q. refl) (λ q. refl)
+    recorded_fits (λ n. event n (broadcast_action c.args.c.0 [])) (λ q. record q { left = []; count = q.count + 1; calling = None }) _ _ c.me.inside.number c.me.inside.hand c.me.inside.seat.me c.fetch_add.new.seat.me (u.2, u.3, u.4) c.fetch_add.ensures.0 c.me.invariant (λ q. refl) (λ q. refl) (λ q. refl) (λ q. refl) (λ q. refl)
 
 pub returns-clause-count : goal.returns-clause-count
 returns-clause-count g c = (c.fetch_add.ensures.2 c.args.c.0 c.count_word.ensures).0 ∙ ap (λ k. k.count) c.me.view_is
 
 pub returns-clause-event : goal.returns-clause-event
 returns-clause-event g c = let u = c.fetch_add.ensures.2 c.args.c.0 c.count_word.ensures in
-    told_event (λ n. event n (broadcast_action c.args.c.0 [])) (λ q. record q { left = []; count = q.count + 1; calling = None }) _ _ c.me.inside.number _ _ c.me.inside.seat.me c.fetch_add.new.seat.me c.args.me.now (u.2, u.3, u.4) c.me.view_is c.fetch_add.ensures.0 c.me.invariant.numbered (λ q. refl) (λ q. refl) (λ q. refl)
+    recorded_event (λ n. event n (broadcast_action c.args.c.0 [])) (λ q. record q { left = []; count = q.count + 1; calling = None }) _ _ c.me.inside.number _ _ c.me.inside.seat.me c.fetch_add.new.seat.me c.args.me.now (u.2, u.3, u.4) c.me.view_is c.fetch_add.ensures.0 c.me.invariant.numbered (λ q. refl) (λ q. refl) (λ q. refl)
 
 pub returns-clause-advanced : goal.returns-clause-advanced
 returns-clause-advanced g c = as_known (λ z m a. let k = known_as z c.me.inside.number m c.me.inside.entries.items c.me.inside.lost c.me.inside.next in k ≡ record a { seen = k.seen; mine = k.mine; places = k.places; left = []; count = a.count + 1; calling = None; pen = made a.pen }) _ _ _ _ _ c.me.inside.seat.me _ _ _ c.me.view_is c.fetch_add.ensures.0 (c.fetch_add.ensures.2 c.args.c.0 c.count_word.ensures).4 refl

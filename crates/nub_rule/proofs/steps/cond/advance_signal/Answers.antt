@@ -5,10 +5,10 @@ use Rattle.nub_rule.specs.declared.view.Pen.{Pen}
 use Rattle.nub_rule.specs.Items.{Distinct, Small, queue_of}
 use Rattle.nub_rule.specs.Parts.{made, MayTell}
 use Rattle.nub_rule.specs.Places.{most_threads, cond_object}
-use Rattle.nub_rule.specs.Plays.{told, behind, event, signal_action}
+use Rattle.nub_rule.specs.Plays.{recorded, tail_of, event, signal_action}
 use Rattle.nub_rule.proofs.Naming.{cond_low}
 use Rattle.nub_rule.proofs.Handling.{same_slot}
-use Rattle.nub_rule.proofs.AtHand.{QueueAtHand, queue_at_hand, After, requeued, told_after}
+use Rattle.nub_rule.proofs.AtHand.{QueueAtHand, queue_at_hand, After, requeued, recorded_after}
 use Rattle.nub_rule.proofs.CondSteps.{advance_signal_keeps}
 use Rattle.nub_rule.proofs.steps.cond.advance_signal.Given.{Over}
 use Rattle.nub_rule.proofs.steps.cond.advance_signal.Goals.{After-bring, After-fetch_add-count}
@@ -24,8 +24,8 @@ bring-requires-clause-there g c = (Queue (queue_of c.me.inside.seat.me.0.part.qu
 pub slot_mut-requires-clause-first : goal.slot_mut-requires-clause-first
 slot_mut-requires-clause-first g c = (Queue (queue_of c.me.inside.seat.me.0.part.queue), (at_hand g (goal.at.slot_mut-requires-clause-first g c).After-bring).first)
 
-pub set_behind-left-requires : goal.set_behind-left-requires
-set_behind-left-requires g c = let a = at_hand g (goal.at.set_behind-left-requires g c).After-bring in
+pub set_past-left-requires : goal.set_past-left-requires
+set_past-left-requires g c = let a = at_hand g (goal.at.set_past-left-requires g c).After-bring in
     (c.me.inside.seat.me.0.part.queue, same_slot (cond_object c.args.c.0) _ _ _ _ c.slot_mut.ensures.value a.first, subst (Small most_threads) (ap (λ k. k.queue) (sym c.me.view_is)) c.requires.small)
 
 pub fetch_add-count-requires-clause-inside : goal.fetch_add-count-requires-clause-inside
@@ -39,7 +39,7 @@ fetch_add-count-requires-clause-allowed g c κs within = let near = cond_low _ _
     (subst (λ (z : Bool × Life × Pen). MayTell z.0 z.1 z.2) (λ j. (sym traces j, (ap (λ k. k.life) (sym c.me.view_is) ∙ ap (λ p. p.life) (sym e)) j, (ap (λ k. k.pen) (sym c.me.view_is) ∙ ap (λ p. p.pen) (sym e)) j)) c.requires.pen)
 
 signalled : (g : Over) (c : After-fetch_add-count g) → QueueAtHand c.me.inside.seat.me c.bring.new.seat.me c.bring.new.hand (cond_object c.args.c.0)
-    → After (λ n p. record (told p (p.seen ++ (c.fetch_add-count.ensures.2 c.args.c.0 c.count_word.ensures).2) (event n (signal_action c.args.c.0 (behind p.queue)))) { left = behind p.queue; count = p.count + 1; calling = None }) (λ vs. vs) c.me.inside.seat.table_id c.fetch_add-count.new.seat.table_id c.me.inside.number c.bring.new.hand c.me.inside.seat.me c.fetch_add-count.new.seat.me c.me.inside.room.items (vec_capacity c.me.inside.room)
+    → After (λ n p. record (recorded p (p.seen ++ (c.fetch_add-count.ensures.2 c.args.c.0 c.count_word.ensures).2) (event n (signal_action c.args.c.0 (tail_of p.queue)))) { left = tail_of p.queue; count = p.count + 1; calling = None }) (λ vs. vs) c.me.inside.seat.table_id c.fetch_add-count.new.seat.table_id c.me.inside.number c.bring.new.hand c.me.inside.seat.me c.fetch_add-count.new.seat.me c.me.inside.room.items (vec_capacity c.me.inside.room)
 signalled g c a = requeued _ _ _ _ _ _ _ _ _ _ _ _ c.me.invariant a (c.fetch_add-count.ensures.0 ∙ c.bring.ensures.same.0) (same_slot (cond_object c.args.c.0) _ _ _ _ c.slot_mut.ensures.value a.first) (c.fetch_add-count.ensures.2 c.args.c.0 c.count_word.ensures).4 refl refl refl
     (λ e. c.me.invariant.hands.room (cond_object c.args.c.0) a.spins e)
 
@@ -54,8 +54,8 @@ returns-clause-distinct g c = subst Distinct (ap (λ v. v.part.queue) c.bring.en
 
 pub returns-clause-event : goal.returns-clause-event
 returns-clause-event g c = let u = c.fetch_add-count.ensures.2 c.args.c.0 c.count_word.ensures in
-    told_after (λ n q. event n (signal_action c.args.c.0 (behind q))) (λ p. record p { left = behind p.queue; count = p.count + 1; calling = None }) u.2 _ _ c.me.inside.number _ _ c.me.inside.seat.me c.fetch_add-count.new.seat.me c.bring.new.seat.me.0 _ c.args.me.now c.me.view_is (c.fetch_add-count.ensures.0 ∙ c.bring.ensures.same.0) c.bring.ensures.same.2 c.me.invariant.numbered u.3 u.4 (λ q. refl) (λ q. refl) (λ q. refl)
+    recorded_after (λ n q. event n (signal_action c.args.c.0 (tail_of q))) (λ p. record p { left = tail_of p.queue; count = p.count + 1; calling = None }) u.2 _ _ c.me.inside.number _ _ c.me.inside.seat.me c.fetch_add-count.new.seat.me c.bring.new.seat.me.0 _ c.args.me.now c.me.view_is (c.fetch_add-count.ensures.0 ∙ c.bring.ensures.same.0) c.bring.ensures.same.2 c.me.invariant.numbered u.3 u.4 (λ q. refl) (λ q. refl) (λ q. refl)
 
 pub returns-clause-advanced : goal.returns-clause-advanced
 returns-clause-advanced g c = let t = goal.at.returns-clause-advanced g c in let k = c.args.me.now in
-    subst (λ b. b ≡ record k { seen = b.seen; mine = b.mine; places = b.places; left = behind k.queue; count = k.count + 1; calling = None; pen = made k.pen }) (sym ((signalled g t.After-fetch_add-count (at_hand g t.After-bring)).sees _ _ _ _ c.me.view_is)) refl
+    subst (λ b. b ≡ record k { seen = b.seen; mine = b.mine; places = b.places; left = tail_of k.queue; count = k.count + 1; calling = None; pen = made k.pen }) (sym ((signalled g t.After-fetch_add-count (at_hand g t.After-bring)).sees _ _ _ _ c.me.view_is)) refl

@@ -9,7 +9,7 @@ use Rattle.nub_rule.specs.Parts.{HasNothing, made, MayTell}
 use Rattle.nub_rule.specs.Places.{life_at}
 use Rattle.nub_rule.specs.Plays.{end_event}
 use Rattle.nub_rule.proofs.Seen.{as_known}
-use Rattle.nub_rule.proofs.AtHand.{told_fits, told_event}
+use Rattle.nub_rule.proofs.AtHand.{recorded_fits, recorded_event}
 use Rattle.nub_rule.proofs.LifeSteps.{end_life_keeps}
 use Rattle.nub_rule.proofs.steps.life.end_life.Goals as goal
 
@@ -23,10 +23,10 @@ store-requires-clause-allowed g c κs within = let i = c.me.invariant in let tra
     (subst (λ (z : Bool × Life × Pen). MayTell z.0 z.1 z.2) (λ j. (sym traces j, ap (λ k. k.life) (sym c.me.view_is) j, ap (λ k. k.pen) (sym c.me.view_is) j)) c.requires.pen)
 
 pub invariant_of-me : goal.invariant_of-me
-invariant_of-me g c = told_fits (λ n. end_event n) (λ q. record q { life = Ended }) _ _ c.me.inside.number c.me.inside.hand c.me.inside.seat.me c.store.new.seat.me c.store.ensures.2 c.store.ensures.0 c.me.invariant (λ q. refl) (λ q. refl) (λ q. refl) (λ q. refl) (λ q. refl)
+invariant_of-me g c = recorded_fits (λ n. end_event n) (λ q. record q { life = Ended }) _ _ c.me.inside.number c.me.inside.hand c.me.inside.seat.me c.store.new.seat.me c.store.ensures.2 c.store.ensures.0 c.me.invariant (λ q. refl) (λ q. refl) (λ q. refl) (λ q. refl) (λ q. refl)
 
 pub returns-clause-event : goal.returns-clause-event
-returns-clause-event g c = told_event (λ n. end_event n) (λ q. record q { life = Ended }) _ _ c.me.inside.number _ _ c.me.inside.seat.me c.store.new.seat.me c.args.me.now c.store.ensures.2 c.me.view_is c.store.ensures.0 c.me.invariant.numbered (λ q. refl) (λ q. refl) (λ q. refl)
+returns-clause-event g c = recorded_event (λ n. end_event n) (λ q. record q { life = Ended }) _ _ c.me.inside.number _ _ c.me.inside.seat.me c.store.new.seat.me c.args.me.now c.store.ensures.2 c.me.view_is c.store.ensures.0 c.me.invariant.numbered (λ q. refl) (λ q. refl) (λ q. refl)
 
 pub returns-clause-ended : goal.returns-clause-ended
 returns-clause-ended g c = as_known (λ z m a. let k = known_as z c.me.inside.number m c.me.inside.entries.items c.me.inside.lost c.me.inside.next in k ≡ record a { seen = k.seen; mine = k.mine; places = k.places; life = Ended; pen = made a.pen }) _ _ _ _ _ c.me.inside.seat.me _ _ _ c.me.view_is c.store.ensures.0 c.store.ensures.2.2 refl

@@ -4,7 +4,7 @@ use Rattle.nub_rule.specs.declared.view.Child.TheVariants.{Forked}
 use Rattle.nub_rule.specs.declared.view.Pen.{Pen}
 use Rattle.nub_rule.specs.Known.{known_as, Makes}
 use Rattle.nub_rule.specs.Parts.{made, MayTell}
-use Rattle.nub_rule.specs.Plays.{Grows, told, fork_event}
+use Rattle.nub_rule.specs.Plays.{Grows, recorded, fork_event}
 use Rattle.nub_rule.proofs.Seen.{as_known}
 use Rattle.nub_rule.proofs.AtHand.{fit_noted}
 use Rattle.nub_rule.proofs.ForkSteps.{fit_forked, fork_life_keeps}
@@ -20,8 +20,8 @@ store-requires-clause-allowed g c κs within = let traces : c.p.inside.table.sha
 
 pub invariant_of-me : goal.invariant_of-me
 invariant_of-me g c = let u = c.store.ensures.2 c.args.who.0 c.requires.few c.life_word.ensures in let v = c.me.inside.seat.me.0 in
-    fit_forked _ _ c.me.inside.number c.me.inside.hand c.me.inside.seat.me c.store.new.seat.me (told v.part (v.part.seen ++ u.1) (fork_event v.number c.args.who.0)) _ c.store.ensures.0 u.3
-    (fit_noted _ _ c.me.inside.number c.me.inside.hand c.me.inside.seat.me _ (told v.part (v.part.seen ++ u.1) (fork_event v.number c.args.who.0)) refl refl c.me.invariant refl refl refl refl refl)
+    fit_forked _ _ c.me.inside.number c.me.inside.hand c.me.inside.seat.me c.store.new.seat.me (recorded v.part (v.part.seen ++ u.1) (fork_event v.number c.args.who.0)) _ c.store.ensures.0 u.3
+    (fit_noted _ _ c.me.inside.number c.me.inside.hand c.me.inside.seat.me _ (recorded v.part (v.part.seen ++ u.1) (fork_event v.number c.args.who.0)) refl refl c.me.invariant refl refl refl refl refl)
 
 pub returns-clause-event : goal.returns-clause-event
 returns-clause-event g c = let t : ℕ = c.args.who.0 in let i = c.me.invariant in let u = c.store.ensures.2 t c.requires.few c.life_word.ensures in

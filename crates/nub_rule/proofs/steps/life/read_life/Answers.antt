@@ -8,7 +8,7 @@ use Rattle.nub_rule.specs.Parts.{made, MayTell}
 use Rattle.nub_rule.specs.Plays.{join_event}
 use Rattle.nub_rule.proofs.Naming.{thread_low}
 use Rattle.nub_rule.proofs.Seen.{as_known}
-use Rattle.nub_rule.proofs.AtHand.{noted, fit_noted, told_fits, told_event}
+use Rattle.nub_rule.proofs.AtHand.{noted, fit_noted, recorded_fits, recorded_event}
 use Rattle.nub_rule.proofs.LifeSteps.{read_life_keeps}
 use Rattle.nub_rule.proofs.steps.life.read_life.Goals as goal
 
@@ -22,12 +22,12 @@ load-requires-clause-allowed g c κs within = let traces : c.p.inside.table.shar
 
 pub invariant_of-me : goal.invariant_of-me
 invariant_of-me g c = let u = c.load.ensures.2 c.args.who.0 (thread_low _ _ _ _ c.p.view_is c.p.invariant.laid_out c.p.invariant.lawful c.args.who.0 c.requires.named) c.life_word.ensures in dite (ℕ_discrete c.load.result 2)
-    (λ hit. told_fits (λ n. join_event n c.args.who.0) (λ q. q) _ _ c.me.inside.number c.me.inside.hand c.me.inside.seat.me c.load.new.seat.me (u.0 hit) c.load.ensures.0 c.me.invariant (λ q. refl) (λ q. refl) (λ q. refl) (λ q. refl) (λ q. refl))
+    (λ hit. recorded_fits (λ n. join_event n c.args.who.0) (λ q. q) _ _ c.me.inside.number c.me.inside.hand c.me.inside.seat.me c.load.new.seat.me (u.0 hit) c.load.ensures.0 c.me.invariant (λ q. refl) (λ q. refl) (λ q. refl) (λ q. refl) (λ q. refl))
     (λ miss. fit_noted _ _ c.me.inside.number c.me.inside.hand c.me.inside.seat.me _ c.me.inside.seat.me.0.part c.load.ensures.0 (u.1 miss) c.me.invariant refl refl refl refl refl)
 
 pub returns-clause-event : goal.returns-clause-event
 returns-clause-event g c = let u = c.load.ensures.2 c.args.who.0 (thread_low _ _ _ _ c.p.view_is c.p.invariant.laid_out c.p.invariant.lawful c.args.who.0 c.requires.named) c.life_word.ensures in
-    λ hit. told_event (λ n. join_event n c.args.who.0) (λ q. q) _ _ c.me.inside.number _ _ c.me.inside.seat.me c.load.new.seat.me c.args.me.now (u.0 hit) c.me.view_is c.load.ensures.0 c.me.invariant.numbered (λ q. refl) (λ q. refl) (λ q. refl)
+    λ hit. recorded_event (λ n. join_event n c.args.who.0) (λ q. q) _ _ c.me.inside.number _ _ c.me.inside.seat.me c.load.new.seat.me c.args.me.now (u.0 hit) c.me.view_is c.load.ensures.0 c.me.invariant.numbered (λ q. refl) (λ q. refl) (λ q. refl)
 
 pub returns-clause-joined : goal.returns-clause-joined
 returns-clause-joined g c = let u = c.load.ensures.2 c.args.who.0 (thread_low _ _ _ _ c.p.view_is c.p.invariant.laid_out c.p.invariant.lawful c.args.who.0 c.requires.named) c.life_word.ensures in

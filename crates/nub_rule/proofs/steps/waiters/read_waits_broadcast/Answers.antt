@@ -8,7 +8,7 @@ use Rattle.nub_rule.specs.Parts.{made, MayTell}
 use Rattle.nub_rule.specs.Plays.{event, broadcast_action}
 use Rattle.nub_rule.proofs.Naming.{cond_low}
 use Rattle.nub_rule.proofs.Seen.{as_known}
-use Rattle.nub_rule.proofs.AtHand.{noted, fit_noted, told_fits, told_event}
+use Rattle.nub_rule.proofs.AtHand.{noted, fit_noted, recorded_fits, recorded_event}
 use Rattle.nub_rule.proofs.BegunSteps.{read_waits_broadcast_keeps}
 use Rattle.nub_rule.proofs.steps.waiters.read_waits_broadcast.Goals as goal
 
@@ -21,12 +21,12 @@ load-requires-clause-allowed g c κs within = let near = cond_low _ _ _ _ c.p.vi
 
 pub invariant_of-me : goal.invariant_of-me
 invariant_of-me g c = let u = c.load.ensures.2 c.args.c.0 c.waits_word.ensures in dite (ℕ_discrete c.load.result 0)
-    (λ hit. told_fits (λ n. event n (broadcast_action c.args.c.0 [])) (λ q. q) _ _ c.me.inside.number c.me.inside.hand c.me.inside.seat.me c.load.new.seat.me (u.0 hit) c.load.ensures.0 c.me.invariant (λ q. refl) (λ q. refl) (λ q. refl) (λ q. refl) (λ q. refl))
+    (λ hit. recorded_fits (λ n. event n (broadcast_action c.args.c.0 [])) (λ q. q) _ _ c.me.inside.number c.me.inside.hand c.me.inside.seat.me c.load.new.seat.me (u.0 hit) c.load.ensures.0 c.me.invariant (λ q. refl) (λ q. refl) (λ q. refl) (λ q. refl) (λ q. refl))
     (λ miss. fit_noted _ _ c.me.inside.number c.me.inside.hand c.me.inside.seat.me _ _ c.load.ensures.0 (u.1 miss) c.me.invariant refl refl refl refl refl)
 
 pub returns-clause-event : goal.returns-clause-event
 returns-clause-event g c = let u = c.load.ensures.2 c.args.c.0 c.waits_word.ensures in
-    λ hit. told_event (λ n. event n (broadcast_action c.args.c.0 [])) (λ q. q) _ _ c.me.inside.number _ _ c.me.inside.seat.me c.load.new.seat.me c.args.me.now (u.0 hit) c.me.view_is c.load.ensures.0 c.me.invariant.numbered (λ q. refl) (λ q. refl) (λ q. refl)
+    λ hit. recorded_event (λ n. event n (broadcast_action c.args.c.0 [])) (λ q. q) _ _ c.me.inside.number _ _ c.me.inside.seat.me c.load.new.seat.me c.args.me.now (u.0 hit) c.me.view_is c.load.ensures.0 c.me.invariant.numbered (λ q. refl) (λ q. refl) (λ q. refl)
 
 pub returns-clause-quiet : goal.returns-clause-quiet
 returns-clause-quiet g c = let u = c.load.ensures.2 c.args.c.0 c.waits_word.ensures in

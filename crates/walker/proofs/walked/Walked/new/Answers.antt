@@ -17,6 +17,6 @@ invariant_of-result c = (
 pub returns-clause-new : goal.returns-clause-new
 returns-clause-new c = sym (is_new c.args.root.now (string_bytes c.in_ok-name.name) (pairs_of c.in_ok-dirs.dirs.entries) (names_in (string_bytes c.in_ok-name.name) c.new.result.items) c.in_ok-name.ensures.ok c.in_ok-dirs.ensures (ap (names_in (string_bytes c.in_ok-name.name)) c.new.ensures.items))
 
-pub returns-clause-told : goal.returns-clause-told
-returns-clause-told c = λ t. subst (λ (w : Walk). IsWalkOf w t) (is_new c.args.root.now (string_bytes c.in_ok-name.name) (pairs_of c.in_ok-dirs.dirs.entries) (names_in (string_bytes c.in_ok-name.name) c.new.result.items) c.in_ok-name.ensures.ok c.in_ok-dirs.ensures (ap (names_in (string_bytes c.in_ok-name.name)) c.new.ensures.items))
+pub returns-clause-reported : goal.returns-clause-reported
+returns-clause-reported c = λ t. subst (λ (w : Walk). IsWalkOf w t) (is_new c.args.root.now (string_bytes c.in_ok-name.name) (pairs_of c.in_ok-dirs.dirs.entries) (names_in (string_bytes c.in_ok-name.name) c.new.result.items) c.in_ok-name.ensures.ok c.in_ok-dirs.ensures (ap (names_in (string_bytes c.in_ok-name.name)) c.new.ensures.items))
     (IsWalkOf-new c.args.root.now t)

@@ -9,5 +9,5 @@ note_in-requires-clause-sound c = rw c.as_str.ensures.value c.self.invariant.0
 pub note_in-requires-clause-below : goal.note_in-requires-clause-below
 note_in-requires-clause-below c = rw c.as_str.ensures.value c.self.invariant.1
 
-pub returns-clause-told : goal.returns-clause-told
-returns-clause-told c = rw (← c.self.view_is) (rw c.as_str.ensures.value at c.note_in.ensures.told)
+pub returns-clause-reported : goal.returns-clause-reported
+returns-clause-reported c = rw (← c.self.view_is) (rw c.as_str.ensures.value at c.note_in.ensures.reported)

@@ -1,0 +1,9 @@
+use Rattle.std.proofs.Common.{◌++◌, ◌∷◌, [], vec_len}
+use Rattle.index_findings.specs.Pieces.{AreMergedFrom}
+use Rattle.index_findings.proofs.kept_pieces.keep.Given as goal
+
+abbrev pub invariant-loop : goal.invariant-loop
+invariant-loop l = AreMergedFrom (l.fn.kept.items ++ l.fn.piece ∷ []) l.kept.items
+
+abbrev pub decreases-loop : goal.decreases-loop
+decreases-loop l = vec_len l.kept

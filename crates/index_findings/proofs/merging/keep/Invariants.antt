@@ -1,9 +1,0 @@
-use Rattle.std.proofs.Common.{◌++◌, ◌∷◌, [], vec_len}
-use Rattle.index_findings.specs.Pieces.{AreMergedFrom}
-use Rattle.index_findings.proofs.merging.keep.Given as goal
-
-abbrev pub invariant-loop : goal.invariant-loop
-invariant-loop l = AreMergedFrom (l.fn.kept.items ++ l.fn.piece ∷ []) l.kept.items
-
-abbrev pub decreases-loop : goal.decreases-loop
-decreases-loop l = vec_len l.kept

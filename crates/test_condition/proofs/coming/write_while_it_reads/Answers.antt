@@ -1,6 +1,0 @@
-use Rattle.readers_writers.specs.declared.role.Role.TheVariants.{Idle}
-use Rattle.test_condition.proofs.Playing.{acting_done}
-use Rattle.test_condition.proofs.coming.write_while_it_reads.Goals as goal
-
-pub returns : goal.returns
-returns g c = acting_done c.args.pkg.now c.args.me.number Idle c.loop-i.me c.loop-i.invariant

@@ -1,5 +1,0 @@
-use Rattle.trace_picture.proofs.Lines as lines
-use Rattle.trace_picture.proofs.laws.holds_are_told.Goals as goal
-
-pub returns : goal.returns
-returns c = lines.holds_are_told
