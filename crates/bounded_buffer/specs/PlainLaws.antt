@@ -339,28 +339,29 @@ module _ {T : Type 0} where
       → (q : Held T) × (Some x ≡ Some q) × IsWithin (part_of s at.mutex.0) q
   ring_fits w at is t x s fits = (x, refl, fits)
 
-  is_put : (P : T → Type 0) (d : Did T) (x y : Held T) → Does d x y → IsOfPut P d → put_did x y ≡ d
-  is_put P (Put n i) x y does of =
+  -- what a put or a take did, by the ring before and after
+  pub put_did_is : (P : T → Type 0) (d : Did T) (x y : Held T) → Does d x y → IsOfPut P d → put_did x y ≡ d
+  put_did_is P (Put n i) x y does of =
       let last : y.items ≡ x.items ++ i ∷ [] = ap (λ (v : Held T). v.items) does.3 in
       let following : drop (length x.items) y.items ≡ i ∷ [] = ap (drop (length x.items)) last ∙ drop-append_seam x.items (i ∷ []) in
       ap (put_by x) following ∙ ap (λ k. Put k i) (sym does.2)
-  is_put P (Took n i) x y does of = absurd of
-  is_put P Shut x y does of = absurd of
-  is_put P SawShut x y does of = ap (put_by x) (ap (λ (v : Held T). drop (length x.items) v.items) does.1 ∙ drop-length x.items)
+  put_did_is P (Took n i) x y does of = absurd of
+  put_did_is P Shut x y does of = absurd of
+  put_did_is P SawShut x y does of = ap (put_by x) (ap (λ (v : Held T). drop (length x.items) v.items) does.1 ∙ drop-length x.items)
       ∙ ap (λ b. cond b SawShut WaitedFull) does.0
-  is_put P SawEnd x y does of = absurd of
-  is_put P WaitedFull x y does of = ap (put_by x) (ap (λ (v : Held T). drop (length x.items) v.items) does.2 ∙ drop-length x.items)
+  put_did_is P SawEnd x y does of = absurd of
+  put_did_is P WaitedFull x y does of = ap (put_by x) (ap (λ (v : Held T). drop (length x.items) v.items) does.2 ∙ drop-length x.items)
       ∙ ap (λ b. cond b SawShut WaitedFull) does.0
-  is_put P WaitedEmpty x y does of = absurd of
+  put_did_is P WaitedEmpty x y does of = absurd of
 
-  is_take : (d : Did T) (x y : Held T) → Does d x y → IsOfTake d → take_did x ≡ d
-  is_take (Put n i) x y does of = absurd of
-  is_take (Took n i) x y does of = ap (take_by x) does.1 ∙ ap (λ k. Took k i) (sym does.0)
-  is_take Shut x y does of = absurd of
-  is_take SawShut x y does of = absurd of
-  is_take SawEnd x y does of = ap (take_by x) does.1 ∙ ap (λ b. cond b SawEnd WaitedEmpty) does.0
-  is_take WaitedFull x y does of = absurd of
-  is_take WaitedEmpty x y does of = ap (take_by x) does.1 ∙ ap (λ b. cond b SawEnd WaitedEmpty) does.0
+  pub take_did_is : (d : Did T) (x y : Held T) → Does d x y → IsOfTake d → take_did x ≡ d
+  take_did_is (Put n i) x y does of = absurd of
+  take_did_is (Took n i) x y does of = ap (take_by x) does.1 ∙ ap (λ k. Took k i) (sym does.0)
+  take_did_is Shut x y does of = absurd of
+  take_did_is SawShut x y does of = absurd of
+  take_did_is SawEnd x y does of = ap (take_by x) does.1 ∙ ap (λ b. cond b SawEnd WaitedEmpty) does.0
+  take_did_is WaitedFull x y does of = absurd of
+  take_did_is WaitedEmpty x y does of = ap (take_by x) does.1 ∙ ap (λ b. cond b SawEnd WaitedEmpty) does.0
 
   waits-are : (d : Did T) → IsWait d → is_wait d ≡ true
   waits-are (Put n i) w = absurd w
@@ -389,7 +390,7 @@ module _ {T : Type 0} where
       × (IsWait d → kept s ≡ kept (note at.mutex.0 (put_did x y) ∷ s))
   plain_put w at is t x y s q p d a b does of =
       let same = does_same d x y q p a b does in
-      noted at.mutex.0 x y s d (put_did x y) (is_put (λ i. Unit {0}) d x y same of) same
+      noted at.mutex.0 x y s d (put_did x y) (put_did_is (λ i. Unit {0}) d x y same of) same
 
   pub plain_take : (w : Prim.Unit {0}) (at : BufferAt) → IsPlain at → (t : ℕ) (x y : Held T) (s : List (Note T)) (q p : Held T) (d : Did T)
       → Some x ≡ Some q → Some y ≡ Some p → Does d q p → IsOfTake d
@@ -397,7 +398,7 @@ module _ {T : Type 0} where
       × (IsWait d → kept s ≡ kept (note at.mutex.0 (take_did x) ∷ s))
   plain_take w at is t x y s q p d a b does of =
       let same = does_same d x y q p a b does in
-      noted at.mutex.0 x y s d (take_did x) (is_take d x y same of) same
+      noted at.mutex.0 x y s d (take_did x) (take_did_is d x y same of) same
 
   pub plain_shut : (w : Prim.Unit {0}) (at : BufferAt) → IsPlain at → (t : ℕ) (x y : Held T) (s : List (Note T)) (q p : Held T)
       → Some x ≡ Some q → Some y ≡ Some p → Does Shut q p

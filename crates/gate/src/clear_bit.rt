@@ -22,6 +22,7 @@ use std::sync::Wait;
 /// makes the event; with `None`, in a wait on the mutex that has yet to clear the bit, it makes
 /// none, since nobody holds the mutex from the start of the wait.
 ///
+/// Of the event only contracts read the fields: at run time all that counts is whether there is one.
 /// May wait for the pen, or for the spin word of the queue, which threads give back after a few
 /// steps; never for a mutex or a semaphore.
 #[inline(always)]

@@ -24,7 +24,8 @@ use std::sync::Wait;
 const LOOKS: u32 = 16;
 
 /// Makes the event by taking the bit, after any number of sleeps. Blocks until it has taken the
-/// bit, which another thread must have cleared; nothing says that this ever happens.
+/// bit, which another thread must have cleared; nothing says that this ever happens. Of the event
+/// only contracts read the fields.
 #[inline(always)]
 pub fn take<U: Uses, R: Wait>(rt: &R, p: &Package<U>, me: &mut Thread<U>, at: Object, e: Event)
     requires of { me.old.table_id ≡ p.now.table_id }

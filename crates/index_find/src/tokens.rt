@@ -138,7 +138,7 @@ fn take_after(
     }
 }
 
-/// Takes a token, and says whether it ends a term. After says whether the last one did.
+/// Takes a token, and says whether it ends a term. `following` says whether the last one did.
 pub fn take(
     alloc: Global,
     following: bool,

@@ -1,14 +1,13 @@
 -- The laws of the two buffers: those of plain buffers, with what a thread may put, and what it may
 -- know of what it takes.
-use Rattle.std.proofs.Common.{◌≡◌, ◌≢◌, ◌⊎◌, ◌↔◌, ℕ, ◌+◌, ◌*◌, List, [], ◌∷◌, ◌++◌, eqb, length, drop, cond, Some, None, inl, inr, arith, sym, ap, subst, ◌∙◌, ⊎_elim, refl}
+use Rattle.std.proofs.Common.{◌≡◌, ◌≢◌, ◌⊎◌, ◌↔◌, ℕ, ◌+◌, ◌*◌, List, ◌∷◌, ◌++◌, eqb, Some, None, inl, inr, arith, sym, ap, subst, ◌∙◌, ⊎_elim, refl}
 use Rattle.std.specs.Prelude.{All}
-use Rattle.std.proofs.Math.Seq.{drop-append_seam, drop-length}
 use Rattle.bounded_buffer.specs.declared.at.BufferAt.{BufferAt}
 use Rattle.bounded_buffer.specs.declared.did.Did.{Did}
 use Rattle.bounded_buffer.specs.declared.did.Did.TheVariants.{Put, Took, Shut, SawShut, SawEnd, WaitedFull, WaitedEmpty}
 use Rattle.bounded_buffer.specs.Parts.{IsWithin, IsOfPut, IsOfTake, IsWait, HasDone, Waits}
-use Rattle.bounded_buffer.specs.Plain.{IsPlain, part_of, put_by, take_by, put_did, take_did}
-use Rattle.bounded_buffer.specs.PlainLaws.{plain_put, plain_take, plain_shut, plain_waits}
+use Rattle.bounded_buffer.specs.Plain.{IsPlain, part_of, put_did, take_did}
+use Rattle.bounded_buffer.specs.PlainLaws.{plain_put, plain_take, plain_shut, plain_waits, put_did_is, take_did_is}
 use Rattle.bounded_buffer.specs.Rings.{Held, Does}
 use Rattle.firefly_outside.specs.Trees.{Path}
 use Rattle.index_rule.specs.Children.{IsBelow}
@@ -91,30 +90,6 @@ work_first root at is t x s fits q e i rest first =
       below = first_below root i rest q.items first new.1;
     }
 
--- what a put or a take did, by the ring before and after
-is_put : (P : IndexItem → Type 0) (d : Did IndexItem) (x y : Held IndexItem) → Does d x y → IsOfPut P d → put_did x y ≡ d
-is_put P (Put n i) x y does of =
-    let last : y.items ≡ x.items ++ i ∷ [] = ap (λ (v : Held IndexItem). v.items) does.3 in
-    let following : drop (length x.items) y.items ≡ i ∷ [] = ap (drop (length x.items)) last ∙ drop-append_seam x.items (i ∷ []) in
-    ap (put_by x) following ∙ ap (λ k. Put k i) (sym does.2)
-is_put P (Took n i) x y does of = absurd of
-is_put P Shut x y does of = absurd of
-is_put P SawShut x y does of = ap (put_by x) (ap (λ (v : Held IndexItem). drop (length x.items) v.items) does.1 ∙ drop-length x.items)
-    ∙ ap (λ b. cond b SawShut WaitedFull) does.0
-is_put P SawEnd x y does of = absurd of
-is_put P WaitedFull x y does of = ap (put_by x) (ap (λ (v : Held IndexItem). drop (length x.items) v.items) does.2 ∙ drop-length x.items)
-    ∙ ap (λ b. cond b SawShut WaitedFull) does.0
-is_put P WaitedEmpty x y does of = absurd of
-
-is_take : (d : Did IndexItem) (x y : Held IndexItem) → Does d x y → IsOfTake d → take_did x ≡ d
-is_take (Put n i) x y does of = absurd of
-is_take (Took n i) x y does of = ap (take_by x) does.1 ∙ ap (λ k. Took k i) (sym does.0)
-is_take Shut x y does of = absurd of
-is_take SawShut x y does of = absurd of
-is_take SawEnd x y does of = ap (take_by x) does.1 ∙ ap (λ b. cond b SawEnd WaitedEmpty) does.0
-is_take WaitedFull x y does of = absurd of
-is_take WaitedEmpty x y does of = ap (take_by x) does.1 ∙ ap (λ b. cond b SawEnd WaitedEmpty) does.0
-
 plain_of : (P : IndexItem → Type 0) (d : Did IndexItem) → IsOfPut P d → IsOfPut (λ i. Unit {0}) d
 plain_of P (Put n i) of = tt
 plain_of P (Took n i) of = of
@@ -167,7 +142,7 @@ pub work_put : (root : Path) (at : BufferAt) → IsBuffer at
     × (IsWait d → AreAlike s (noted at.mutex.0 (put_did (ring_of x) (ring_of y)) s))
 work_put root at is t x y s q p d a b does of =
     let m = at.mutex.0 in
-    let same = is_put (λ i. MayPut root m i s) d (ring_of x) (ring_of y) (does_of x y q p d a b does) of in
+    let same = put_did_is (λ i. MayPut root m i s) d (ring_of x) (ring_of y) (does_of x y q p d a b does) of in
     let plain = plain_put tt (as_plain at) (is_plain at) t (ring_of x) (ring_of y) s.notes q p d (ring_is x q a) (ring_is y p b) does
     (plain_of (λ i. MayPut root m i s) d of) in (
       ring_did root m x y s q p d (put_did (ring_of x) (ring_of y)) a b (not_first at is) does (may_put root m s d of) same,
@@ -183,7 +158,7 @@ pub work_take : (root : Path) (at : BufferAt) → IsBuffer at
     × (IsWait d → AreAlike s (noted at.mutex.0 (take_did (ring_of x)) s))
 work_take root at is t x y s q p d a b does of =
     let m = at.mutex.0 in
-    let same = is_take d (ring_of x) (ring_of y) (does_of x y q p d a b does) of in
+    let same = take_did_is d (ring_of x) (ring_of y) (does_of x y q p d a b does) of in
     let plain = plain_take tt (as_plain at) (is_plain at) t (ring_of x) (ring_of y) s.notes q p d (ring_is x q a)
     (ring_is y p b) does of in (
       ring_did root m x y s q p d (take_did (ring_of x)) a b (not_first at is) does (may_take root m s d of) same,
