@@ -2,7 +2,7 @@
 ghost use Rattle.std.specs.Prelude.{◌≡◌, ◌<◌};
 ghost use Rattle.larch_actions.specs.Actions.{lives_at_first};
 ghost use Rattle.larch_actions.specs.Layout.{most_threads};
-ghost use Rattle.trace_board.specs.Tracked.{nothing_tracked, tracked_after, tracked_of, came, let_on_by, is_from, has_run, was_held, forked_by, life_by, life_in, IsNoted, IsNear};
+ghost use Rattle.trace_board.specs.Tracked.{nothing_tracked, tracked_after, tracked_of, came, let_on_by, is_from, has_run, was_held, life_by, life_in, IsNoted, IsNear};
 
 use crate::causes::{Cause, Causes};
 use crate::history::{Change, Lives, Origin, Table, ended_by};
@@ -134,18 +134,6 @@ impl TraceState {
         ensures { result ≡ has_run (tracked_of self.now) start t }
     {
         is_from(start, self.latest.at(t))
-    }
-
-    /// The event that forked the thread, where it has had no event.
-    pub fn forked_by(&self, t: u32) -> Option<Origin>
-        requires { t < most_threads }
-        ensures { result ≡ forked_by (tracked_of self.now) t }
-    {
-        if self.has_run(0, t) {
-            None
-        } else {
-            self.lives.born.at(t)
-        }
     }
 
     /// Whether the thread is unborn, lives or has ended, in a trace of this version.

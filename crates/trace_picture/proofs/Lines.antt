@@ -1,8 +1,6 @@
 -- What the last lines of a picture say.
-use Rattle.std.proofs.Common.{◌≡◌, ℕ, zero, suc, ◌+◌, ◌<◌, List, [], ◌++◌, refl, ap, sym, ◌∙◌, append_assoc, append-nil, Some, None, MatchOption, arith}
+use Rattle.std.proofs.Common.{◌≡◌, ℕ, ◌+◌, ◌<◌, List, ◌++◌, refl, ap, ◌∙◌, append_assoc, Some, None, MatchOption}
 use Rattle.std.specs.Prelude.{codes}
-use mathlib.Core.Logic.{dite}
-use native.Mathlib.Decide.{ℕ_discrete}
 use Rattle.std.specs.declared.option.Option.{Option}
 use Rattle.larch_actions.specs.declared.event.Layout.{Layout}
 use Rattle.trace_board.specs.declared.holds.Hold.{Hold}
@@ -10,32 +8,12 @@ use Rattle.trace_board.specs.Tracked.{Tracked, tracked_since, longest_in}
 use Rattle.trace_shapes.specs.declared.view.DrawnRange.{DrawnRange}
 use Rattle.trace_shapes.specs.Places.{height_of}
 use Rattle.trace_shapes.specs.declared.geometry.TheConstants.{NAME_LINE}
-use Rattle.trace_shapes.specs.Shapes.{with_number, each_below, place_text}
+use Rattle.trace_shapes.specs.Shapes.{with_number, place_text}
 use Rattle.trace_picture.specs.Longest.{hold_end, hold_text, reported_hold, line_x, line_y, sample_text, hold_line, holds_text, holds_height}
 use Rattle.trace_picture.specs.Overview.{over_height, over_style}
 use Rattle.trace_picture.specs.Picture.{part_text, end_text}
 use Rattle.trace_picture.specs.Seen.{HasText, HoldsAreReported}
-
--- a part of a part is one of the whole
-has_in : (whole mid part : List ℕ) → HasText whole mid → HasText mid part → HasText whole part
-has_in whole mid part h g = record {
-  before = h.before ++ g.before;
-  after = g.after ++ h.after;
-  text = h.text ∙ ap (λ x. h.before ++ x ++ h.after) g.text ∙ regroup h.before g.before part g.after h.after;
-}
-  where
-    regroup : (a b c d e : List ℕ) → a ++ (b ++ c ++ d) ++ e ≡ (a ++ b) ++ c ++ (d ++ e)
-    regroup a b c d e = simp append_assoc
-
--- one of the texts below a bound
-each_has : (f : ℕ → List ℕ) (n m : ℕ) → m < n → HasText (each_below f n) (f m)
-unfolding each_below
-each_has f zero m lt = absurd (omega arith)
-each_has f (suc n) m lt = dite (ℕ_discrete m n)
-    (λ same. record { before = each_below f n; after = []; text = sym (append-nil (each_below f n ++ f m) ∙ ap (λ k. each_below f n ++ f k) same) })
-    (λ ne.
-    let h = each_has f n m (omega (arith, ne)) in
-    record { before = h.before; after = h.after ++ f n; text = ap (λ x. x ++ f n) h.text ∙ append_assoc (h.before ++ f m) h.after (f n) })
+use Rattle.trace_picture.proofs.Parts.{has_in, each_has}
 
 -- a line of a picture's end
 module _ (l : Layout) (v : DrawnRange) (k : Tracked) (n : ℕ) (note : List ℕ) (m : ℕ) (lt : m < l.mutexes) where

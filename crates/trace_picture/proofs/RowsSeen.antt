@@ -2,7 +2,7 @@
 use Rattle.std.proofs.Common.{◌≡◌, ℕ, zero, suc, ◌+◌, ◌-◌, ◌*◌, ◌%◌, true, cond, List, [], ◌++◌, length, refl, ap, sym, subst, ◌∙◌, append_assoc, append-nil, Some, arith, ne_eqb}
 use Rattle.std.specs.Prelude.{codes, ◌==◌}
 use Rattle.std.specs.declared.option.Option.{Option}
-use Rattle.std.proofs.lemmas.Bool.{cond-true, cond-false, true≢false}
+use Rattle.std.proofs.lemmas.Bool.{cond-true, cond-false}
 use Rattle.larch_actions.specs.declared.event.Version.{Version}
 use Rattle.larch_actions.specs.declared.event.Version.TheVariants.{One, Two}
 use Rattle.larch_actions.specs.declared.event.Layout.{Layout}
@@ -12,19 +12,23 @@ use Rattle.larch_actions.specs.declared.event.Life.TheVariants.{Live, Ended}
 use Rattle.larch_actions.specs.Actions.{Spec, MeetsWhen}
 use Rattle.trace_board.specs.declared.history.Origin.{Origin}
 use Rattle.trace_board.specs.Marks.{marks, marks_of}
-use Rattle.trace_board.specs.Tracked.{Tracked, tracked_since, tracked_after, extended, life_in, let_on_by, forked_by}
+use Rattle.trace_board.specs.History.{origin_of}
+use Rattle.trace_board.specs.Tracked.{Tracked, tracked_since, tracked_after, extended, life_in, let_on_by}
 use Rattle.trace_board.specs.Laws.{is_live, IsMadeBy, awaited_by}
-use Rattle.trace_board.proofs.Causing.{rows_are_lives, arrows_are_causes, forks_are_births}
+use Rattle.trace_board.proofs.Causing.{rows_are_lives, arrows_are_causes}
 use Rattle.trace_board.proofs.Living.{over_own, over_some}
 use Rattle.trace_shapes.specs.declared.view.DrawnRange.{DrawnRange}
 use Rattle.trace_shapes.specs.declared.view.Band.{Band}
 use Rattle.trace_shapes.specs.declared.geometry.TheConstants.{LEFT, COLUMN}
 use Rattle.trace_shapes.specs.Places.{in_view, column, band_of, event_x}
 use Rattle.trace_shapes.specs.Shapes.{with_number, each_below, row_name, row_text, mark_text, object_if, number_text}
-use Rattle.trace_shapes.specs.Arrows.{link, arrow_if, arrow_text}
+use Rattle.trace_shapes.specs.declared.view.Shape.{Shape}
+use Rattle.trace_shapes.specs.declared.view.Shape.TheVariants.{Joined}
+use Rattle.trace_shapes.specs.Arrows.{link, arrow_if, arrow_text, fork_text}
 use Rattle.trace_picture.specs.Lives.{row_if, row_box, row_from, row_until, life_row}
-use Rattle.trace_picture.specs.Bands.{band_number, band_tag, lines_height, lines_text, up_to, opening, event_shapes, bars_ended, arrow_to, closing_after, step_text}
+use Rattle.trace_picture.specs.Bands.{band_number, band_tag, lines_height, lines_text, up_to, opening, event_shapes, bars_ended, arrow_by, wakes_by, fork_by, arrows_at, closing_after, step_text}
 use Rattle.trace_picture.specs.Seen.{HasText, row_tag, RowsStand, RowsBegin, RowsEnd, JoinsAreDrawn, ForksAreDrawn}
+use Rattle.trace_picture.proofs.Parts.{has_in}
 
 -- texts that are the same for each number
 each_same : (f g : ℕ → List ℕ) → ((t : ℕ) → f t ≡ g t) → (n : ℕ) → each_below f n ≡ each_below g n
@@ -68,7 +72,7 @@ module _ (l : Layout) (v : DrawnRange) (k : Tracked) (n : ℕ) (e : Event) (seen
       let mark = mark_text b n e in
       let object = object_if b n e in
       let bars = bars_ended (up_to b n) k (marks e) in
-      let arrow = arrow_to b k n e in
+      let arrow = arrows_at b k (origin_of n e) (marks e) in
       let cl = closing_after l v (tracked_after n e k) n in
       record {
         before = op ++ num;
@@ -78,28 +82,43 @@ module _ (l : Layout) (v : DrawnRange) (k : Tracked) (n : ℕ) (e : Event) (seen
             ∙ ap (λ x. op ++ (num ++ x ++ mark ++ object ++ bars ++ arrow) ++ cl) is ∙ there op num part rest mark object bars arrow cl;
       }
 
-  among : (op num life mark object bars before arrow after cl : List ℕ)
-      → op ++ (num ++ life ++ mark ++ object ++ bars ++ (before ++ arrow ++ after)) ++ cl ≡ (op ++ num ++ life ++ mark ++ object ++ bars ++ before) ++ arrow ++ (after ++ cl)
-  among op num life mark object bars before arrow after cl = simp append_assoc
+  among : (op num life mark object bars arrows cl : List ℕ) → op ++ (num ++ life ++ mark ++ object ++ bars ++ arrows) ++ cl ≡ (op ++ num ++ life ++ mark ++ object ++ bars) ++ arrows ++ cl
+  among op num life mark object bars arrows cl = simp append_assoc
 
-  -- an arrow is in what it adds
-  arrow_there : (before arrow after : List ℕ) → arrow_to b k n e ≡ before ++ arrow ++ after → HasText (step_text l v k n e) arrow
+  -- its arrows are in what it adds
+  pub arrows_there : HasText (step_text l v k n e) (arrows_at b k (origin_of n e) (marks e))
   unfolding step_text event_shapes
-  arrow_there before arrow after is =
+  arrows_there =
       let op = opening l v k n in
       let num = number_text b n in
       let life = life_row b n (marks e).life in
       let mark = mark_text b n e in
       let object = object_if b n e in
       let bars = bars_ended (up_to b n) k (marks e) in
+      let arrows = arrows_at b k (origin_of n e) (marks e) in
       let cl = closing_after l v (tracked_after n e k) n in
       record {
-        before = op ++ num ++ life ++ mark ++ object ++ bars ++ before;
-        after = after ++ cl;
-        text =
-            cond-true (in_view v n) (op ++ event_shapes b k n e ++ cl) [] seen
-            ∙ ap (λ x. op ++ (num ++ life ++ mark ++ object ++ bars ++ x) ++ cl) is ∙ among op num life mark object bars before arrow after cl;
+        before = op ++ num ++ life ++ mark ++ object ++ bars;
+        after = cl;
+        text = cond-true (in_view v n) (op ++ event_shapes b k n e ++ cl) [] seen ∙ among op num life mark object bars arrows cl;
       }
+
+  -- the arrow to it, and that to the thread that it forks, are among them
+  first_there : HasText (step_text l v k n e) (arrow_by b k (origin_of n e) (marks e).wait (marks e).waker)
+  unfolding arrows_at
+  first_there =
+      let o = origin_of n e in
+      let m = marks e in
+      has_in (step_text l v k n e) (arrows_at b k o m) (arrow_by b k o m.wait m.waker) arrows_there
+      (record { before = []; after = wakes_by b o k.stands m.stand ++ fork_by b o m.life; text = append_assoc (arrow_by b k o m.wait m.waker) (wakes_by b o k.stands m.stand) (fork_by b o m.life) })
+
+  last_there : HasText (step_text l v k n e) (fork_by b (origin_of n e) (marks e).life)
+  unfolding arrows_at
+  last_there =
+      let o = origin_of n e in
+      let m = marks e in
+      has_in (step_text l v k n e) (arrows_at b k o m) (fork_by b o m.life) arrows_there
+      (record { before = arrow_by b k o m.wait m.waker ++ wakes_by b o k.stands m.stand; after = []; text = sym (append-nil (arrows_at b k o m)) })
 
 -- a row that begins or ends
 from_there : (b : Band) (x t : ℕ) → row_from b x t ≡ (codes "<rect class='r" ++ row_box b x t) ++ row_name b t
@@ -134,8 +153,8 @@ rows_end = λ l v k n e is seen.
     (row_there l v k n e seen (codes "<rect class='z" ++ row_box b x t) (with_number (codes "'><title>t") t ++ codes " has ended</title></rect>\n") (row ∙ until_there b x t))
 
 -- the arrow from another thread is drawn
-arrow_is : (b : Band) (n t : ℕ) (x : Option Origin) (o : Origin) → x ≡ Some o → (o.thread.0 ≡ t → ⊥) → arrow_if b n t x ≡ arrow_text (link b n t o)
-arrow_is b n t x o is other = ap (arrow_if b n t) is ∙ cond-false (o.thread.0 == t) [] (arrow_text (link b n t o)) (ne_eqb o.thread.0 t other)
+arrow_is : (shape : Shape) (b : Band) (n t : ℕ) (x : Option Origin) (o : Origin) → x ≡ Some o → (o.thread.0 ≡ t → ⊥) → arrow_if shape b n t x ≡ arrow_text shape (link b n t o)
+arrow_is shape b n t x o is other = ap (arrow_if shape b n t) is ∙ cond-false (o.thread.0 == t) [] (arrow_text shape (link b n t o)) (ne_eqb o.thread.0 t other)
 
 pub joins_are_drawn : JoinsAreDrawn
 joins_are_drawn = λ l v es s r e may who is seen.
@@ -149,24 +168,17 @@ joins_are_drawn = λ l v es s r e may who is seen.
     let by : let_on_by k (marks e).waker ≡ Some o = ap (λ a. let_on_by k (marks_of t a).waker) is ∙ over.1 in
     let other : o.thread.0 ≡ t → ⊥ = λ same. lives_not (ap s.life (sym (sym (over_own (extended [] es) who.0 o over.1) ∙ same)) ∙ when) may.live in
     let made = subst (λ a. IsMadeBy l.version (awaited_by t a) es s o) is (arrows_are_causes l.version es s r e may o by) in
-    let rest = arrow_if b n t (forked_by k t) in
-    (o, made, arrow_there l v k n e seen [] (arrow_text (link b n t o)) rest (ap (λ x. x ++ rest) (arrow_is b n t (let_on_by k (marks e).waker) o by other)))
+    let drawn : arrow_by b k (origin_of n e) (marks e).wait (marks e).waker ≡ arrow_text Joined (link b n t o) =
+    ap (λ a. arrow_by b k (origin_of n e) (marks_of t a).wait (marks_of t a).waker) is ∙ arrow_is Joined b n t (k.over who.0) o over.1 other
+    in
+    (o, made, subst (HasText (step_text l v k n e)) drawn (first_there l v k n e seen))
   where
     lives_not : {x : Life} → x ≡ Ended → x ≡ Live → ⊥
     lives_not e f = let bad : Ended ≡ Live = sym e ∙ f in cc
 
 pub forks_are_drawn : ForksAreDrawn
-forks_are_drawn = λ l v es s r e may o by seen.
-    let k = tracked_since (extended [] es) in
-    let n = length es in
-    let t = e.thread.0 in
+forks_are_drawn = λ l v k n e who is seen.
+    let o = origin_of n e in
     let b = band_of l v n in
-    let born = forks_are_births l.version es s r e may o by in
-    let m = born.0 in
-    let other : o.thread.0 ≡ t → ⊥ = λ same.
-    let own : m.cause.thread.0 ≡ t = sym (ap (λ (p : Origin). p.thread.0) m.is) ∙ same in
-    true≢false (sym (ap is_live (ap m.old.life (sym own) ∙ m.acts.0.live)) ∙ m.was)
-    in
-    let before = arrow_if b n t (let_on_by k (marks e).waker) in
-    let arrow = arrow_text (link b n t o) in
-    (m, born.1, arrow_there l v k n e seen before arrow [] (ap (λ x. before ++ x) (arrow_is b n t (forked_by k t) o by other) ∙ sym (append-nil (before ++ arrow))))
+    let drawn : fork_by b o (marks e).life ≡ fork_text b o who.0 = ap (λ a. fork_by b o (marks_of e.thread.0 a).life) is in
+    subst (HasText (step_text l v k n e)) drawn (last_there l v k n e seen)

@@ -16,15 +16,16 @@ use Rattle.trace_board.specs.declared.rows.Bar.TheVariants.{Mutex, Semaphore}
 use Rattle.trace_shapes.specs.declared.view.DrawnRange.{DrawnRange}
 use Rattle.trace_shapes.specs.Looks.{look_of}
 use Rattle.trace_board.specs.Marks.{marks, marks_of}
+use Rattle.trace_board.specs.History.{origin_of}
 use Rattle.trace_board.specs.Rows.{lane_in}
-use Rattle.trace_board.specs.Tracked.{Tracked, tracked_since, tracked_after, extended}
+use Rattle.trace_board.specs.Tracked.{Tracked, tracked_since, tracked_after, extended, let_on_by}
 use Rattle.trace_shapes.specs.declared.view.Band.{Band}
 use Rattle.trace_shapes.specs.declared.view.Strip.{Strip}
 use Rattle.trace_shapes.specs.declared.geometry.TheConstants.{LEFT, COLUMN, MARK_TOP, LANE_TOP, LANE, BAR_GAP}
 use Rattle.trace_shapes.specs.Places.{in_view, band_of, bar_x, bar_width}
 use Rattle.trace_shapes.specs.Shapes.{place_text, box_text, bar_box, bar_name, bar_text, taken_text, span_text, given_text, line_of, number_text, mark_text, object_if, with_number}
 use Rattle.trace_picture.specs.Lives.{life_row}
-use Rattle.trace_picture.specs.Bands.{opening, closing_after, up_to, strip_of, taken_strip, bar_if, taken_if, bar_ended, taken_ended, wait_ended, bars_ended, arrow_to, event_shapes, step_text}
+use Rattle.trace_picture.specs.Bands.{opening, closing_after, up_to, strip_of, taken_strip, bar_if, taken_if, bar_ended, taken_ended, wait_ended, bars_ended, arrows_at, event_shapes, step_text}
 use Rattle.trace_board.specs.Laws.{IsSince}
 use Rattle.trace_picture.specs.Seen.{kind_of, MarksDiffer, HasText, upper_of, EventsAreMarked, BarsAreDrawn, TakingsAreDrawn}
 use Rattle.trace_board.proofs.Extended.{length-extended}
@@ -109,7 +110,7 @@ events_are_marked = λ l v k n e seen.
     let life = life_row b n (marks e).life in
     let object = object_if b n e in
     let bars = bars_ended (up_to b n) k (marks e) in
-    let arrow = arrow_to b k n e in
+    let arrow = arrows_at b k (origin_of n e) (marks e) in
     let cl = closing_after l v (tracked_after n e k) n in
     record {
       before = opening l v k n ++ number_text b n ++ life;
@@ -135,7 +136,7 @@ module _ (l : Layout) (v : DrawnRange) (k : Tracked) (n : ℕ) (e : Event) (seen
   taken = taken_ended (up_to b n) k (marks e).semaphore
 
   abbrev wait : List ℕ
-  wait = wait_ended (up_to b n) k (marks e).wait
+  wait = wait_ended (up_to b n) k (let_on_by k (marks e).waker) (marks e).wait
 
   -- of a mutex
   bar_there : (marks e).mutex ≡ Ends m → k.held m ≡ Some o → HasText (step_text l v k n e) (with_number (codes "<rect class='m") m ++ box_at (lane_in (k.rows o.thread.0) (Mutex m)))
@@ -146,7 +147,7 @@ module _ (l : Layout) (v : DrawnRange) (k : Tracked) (n : ℕ) (e : Event) (seen
       let life = life_row b n (marks e).life in
       let mark = mark_text b n e in
       let object = object_if b n e in
-      let arrow = arrow_to b k n e in
+      let arrow = arrows_at b k (origin_of n e) (marks e) in
       let cl = closing_after l v (tracked_after n e k) n in
       let strip = strip_of k m o in
       let name = with_number (codes "<rect class='m") m in
@@ -176,7 +177,7 @@ module _ (l : Layout) (v : DrawnRange) (k : Tracked) (n : ℕ) (e : Event) (seen
       let mark = mark_text b n e in
       let object = object_if b n e in
       let bars = bar_ended (up_to b n) k (marks e).mutex in
-      let arrow = arrow_to b k n e in
+      let arrow = arrows_at b k (origin_of n e) (marks e) in
       let cl = closing_after l v (tracked_after n e k) n in
       let strip = taken_strip k m o in
       let name = codes "<rect class='e" in

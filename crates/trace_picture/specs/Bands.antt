@@ -1,13 +1,20 @@
 -- What each event adds to the picture.
-use Rattle.std.specs.Prelude.{ℕ, ◌+◌, ◌-◌, ◌/◌, ◌==◌, true, false, if◌then◌else◌, List, [], ◌++◌, codes, Some, None}
+use Rattle.std.specs.Prelude.{ℕ, ◌+◌, ◌-◌, ◌/◌, ◌==◌, nat_lt, true, false, if◌then◌else◌, List, [], ◌++◌, codes, Some, None}
 use Rattle.std.specs.declared.option.Option.{Option}
 use Rattle.larch_actions.specs.declared.event.Layout.{Layout}
 use Rattle.larch_actions.specs.declared.event.Event.{Event}
 use Rattle.larch_actions.specs.declared.event.Broken.{Broken}
+use Rattle.larch_actions.specs.declared.thread_set.ThreadSet.{ThreadSet}
 use Rattle.trace_board.specs.declared.history.Origin.{Origin}
 use Rattle.trace_board.specs.declared.history.Change.{Change}
 use Rattle.trace_board.specs.declared.history.Change.TheVariants.{Begins, Ends, Stays}
 use Rattle.trace_board.specs.declared.marks.Effects.{Effects}
+use Rattle.trace_board.specs.declared.causes.Cause.{Cause}
+use Rattle.trace_board.specs.declared.causes.CauseChange.{CauseChange}
+use Rattle.trace_board.specs.declared.causes.CauseChange.TheVariants.{Frees}
+use Rattle.trace_board.specs.declared.board.Reason.{Reason}
+use Rattle.trace_board.specs.declared.board.Reason.TheVariants as waker
+use Rattle.trace_board.specs.declared.board.Reason.TheVariants.{Condition, Alerted, Ended, Nobody}
 use Rattle.trace_board.specs.declared.rows.Bar.TheVariants.{Mutex, Semaphore}
 use Rattle.trace_shapes.specs.declared.view.DrawnRange.{DrawnRange}
 use Rattle.trace_shapes.specs.declared.view.Band.{Band}
@@ -15,12 +22,16 @@ use Rattle.trace_shapes.specs.declared.view.Reach.{Reach}
 use Rattle.trace_shapes.specs.declared.view.Strip.{Strip}
 use Rattle.trace_shapes.specs.declared.geometry.TheConstants.{BAND, BAND_GAP, LINES_TOP}
 use Rattle.trace_board.specs.Marks.{marks}
-use Rattle.trace_board.specs.Tracked.{Tracked, tracked_after, let_on_by, forked_by}
+use Rattle.trace_board.specs.Tracked.{Tracked, tracked_after, came, let_on_by}
+use Rattle.trace_board.specs.History.{origin_of}
 use Rattle.trace_board.specs.Rows.{lane_in}
 use Rattle.trace_shapes.specs.Places.{in_view, column, is_open, band_of, band_top, band_height}
 use Rattle.trace_shapes.specs.Shapes.{with_number, each_below, mark_text, object_if, failed_text, bar_text, taken_text, wait_text, number_text}
-use Rattle.trace_shapes.specs.Arrows.{arrow_if}
-use Rattle.trace_picture.specs.Lives.{row_if, life_row, births}
+use Rattle.trace_shapes.specs.declared.view.Freeing.{Freeing}
+use Rattle.trace_shapes.specs.declared.view.Shape.{Shape}
+use Rattle.trace_shapes.specs.declared.view.Shape.TheVariants.{Straight, Bent, Joined}
+use Rattle.trace_shapes.specs.Arrows.{arrow_if, wake_if, fork_text}
+use Rattle.trace_picture.specs.Lives.{row_if, life_row}
 use Rattle.trace_picture.specs.Overview.{column_text}
 
 -- the number of a band
@@ -71,21 +82,24 @@ abbrev pub taken_if : Reach → Tracked → ℕ → Option Origin → List ℕ
 taken_if r k s None = []
 taken_if r k s (Some o) = taken_text r (taken_strip k s o)
 
--- a wait, where a thread waits
-abbrev pub wait_if : Reach → Option Origin → List ℕ
-wait_if r None = []
-wait_if r (Some o) = wait_text r o
+-- a wait, where a thread waits, and which event let it go on
+abbrev pub wait_if : Reach → Option Origin → Option Origin → List ℕ
+wait_if r p None = []
+wait_if r p (Some o) = wait_text r o p
 
 -- the bars that go on
 unfoldable pub bars_on : Layout → Reach → Tracked → List ℕ
 bars_on l r k =
     each_below (λ m. bar_if r k m (k.held m)) l.mutexes ++ each_below (λ s. taken_if r k s (k.taken s)) l.semaphores
-    ++ each_below (λ t. wait_if r (k.waits t)) l.threads
+    ++ each_below (λ t. wait_if r (came (k.stands t)) (k.waits t)) l.threads
 
--- the end of a band, before the event `to`: the bars that go on, the arrows to the rows that begin in it with no event, and its column of the overview
+-- the last tag of a band, and its column of the overview up to the event before `to`
+unfoldable pub band_end : Layout → DrawnRange → Band → Tracked → ℕ → List ℕ
+band_end l v b k to = codes "</g>\n" ++ column_text l k (band_number v b) b.start to
+
+-- the end of a band, before the event `to`: the bars that go on come first
 unfoldable pub closing : Layout → DrawnRange → Band → Tracked → ℕ → List ℕ
-closing l v b k to =
-    bars_on l (on_to b to) k ++ births l.version b k to l.threads ++ codes "</g>\n" ++ column_text l k (band_number v b) b.start to
+closing l v b k to = bars_on l (on_to b to) k ++ band_end l v b k to
 
 -- the bar that ends with the event n
 abbrev pub bar_ended : Reach → Tracked → Change → List ℕ
@@ -99,10 +113,10 @@ taken_ended r k (Begins s) = []
 taken_ended r k (Ends s) = taken_if r k s (k.taken s)
 taken_ended r k Stays = []
 
-abbrev pub wait_ended : Reach → Tracked → Change → List ℕ
-wait_ended r k (Begins t) = []
-wait_ended r k (Ends t) = wait_if r (k.waits t)
-wait_ended r k Stays = []
+abbrev pub wait_ended : Reach → Tracked → Option Origin → Change → List ℕ
+wait_ended r k p (Begins t) = []
+wait_ended r k p (Ends t) = wait_if r p (k.waits t)
+wait_ended r k p Stays = []
 
 -- the end of the band of the event n, where it is full or the part that is drawn ends
 unfoldable pub closing_after : Layout → DrawnRange → Tracked → ℕ → List ℕ
@@ -110,26 +124,62 @@ closing_after l v k n = if is_open v (n + 1) then [] else closing l v (band_of l
 
 -- the bars that the event n ends
 abbrev pub bars_ended : Reach → Tracked → Effects → List ℕ
-bars_ended r k m = bar_ended r k m.mutex ++ taken_ended r k m.semaphore ++ wait_ended r k m.wait
+bars_ended r k m = bar_ended r k m.mutex ++ taken_ended r k m.semaphore ++ wait_ended r k (let_on_by k m.waker) m.wait
 
--- the arrow to the event n, where another thread let its thread go on, and the one to a thread's first event from its fork
-abbrev pub arrow_to : Band → Tracked → ℕ → Event → List ℕ
-arrow_to b k n e = arrow_if b n e.thread.0 (let_on_by k (marks e).waker) ++ arrow_if b n e.thread.0 (forked_by k e.thread.0)
+-- the arrow to the event o, where another thread let its thread go on: one that was in a condition has its arrow at the event that took it out
+abbrev pub alarmed : Change → Shape
+alarmed (Ends t) = Straight
+alarmed _ = Bent
 
--- the event n: the row that it begins or ends, its mark and the number of its object, the bars that it ends, and the arrows to it
+abbrev pub arrow_by : Band → Tracked → Origin → Change → Reason → List ℕ
+arrow_by b k o wait (Condition t) = []
+arrow_by b k o wait (waker.Semaphore s) = arrow_if Bent b o.place o.thread.0 (let_on_by k (waker.Semaphore s))
+arrow_by b k o wait (Alerted t) = arrow_if (alarmed wait) b o.place o.thread.0 (let_on_by k (Alerted t))
+arrow_by b k o wait (Ended t) = arrow_if Joined b o.place o.thread.0 (let_on_by k (Ended t))
+arrow_by b k o wait Nobody = []
+
+-- the arrows to the threads that the event o takes out of their condition
+abbrev pub freeing : Band → Origin → ℕ → ThreadSet → Freeing
+freeing b o c left = record { band = b; by = o; cond = c; left = left }
+
+-- which thread's arrow comes then: from the first thread down to the event's own, and from the last up to it, so that no arrow covers the head of a shorter one
+abbrev pub thread_at : Freeing → ℕ → ℕ
+thread_at f i = if nat_lt i f.by.thread.0 then i else f.by.thread.0 + (f.band.threads - 1 - i)
+
+abbrev pub wake_at : Freeing → (ℕ → Cause) → ℕ → List ℕ
+wake_at f stands i = wake_if f (thread_at f i) (stands (thread_at f i))
+
+abbrev pub wakes : Freeing → (ℕ → Cause) → List ℕ
+wakes f stands = each_below (wake_at f stands) f.band.threads
+
+abbrev pub wakes_by : Band → Origin → (ℕ → Cause) → CauseChange → List ℕ
+wakes_by b o stands (Frees c left) = wakes (freeing b o c left) stands
+wakes_by b o stands _ = []
+
+-- the arrow to the thread that the event o forks
+abbrev pub fork_by : Band → Origin → Change → List ℕ
+fork_by b o (Begins u) = fork_text b o u
+fork_by b o _ = []
+
+-- the arrows from and to the event n
+unfoldable pub arrows_at : Band → Tracked → Origin → Effects → List ℕ
+arrows_at b k o m = arrow_by b k o m.wait m.waker ++ wakes_by b o k.stands m.stand ++ fork_by b o m.life
+
+-- the event n: the row that it begins or ends, its mark and the number of its object, the bars that it ends, and the arrows from it and to it
 unfoldable pub event_shapes : Band → Tracked → ℕ → Event → List ℕ
 event_shapes b k n e =
-    number_text b n ++ life_row b n (marks e).life ++ mark_text b n e ++ object_if b n e ++ bars_ended (up_to b n) k (marks e) ++ arrow_to b k n e
+    number_text b n ++ life_row b n (marks e).life ++ mark_text b n e ++ object_if b n e ++ bars_ended (up_to b n) k (marks e)
+    ++ arrows_at b k (origin_of n e) (marks e)
 
 -- all that the event n adds, where it is drawn
 unfoldable pub step_text : Layout → DrawnRange → Tracked → ℕ → Event → List ℕ
 step_text l v k n e =
     if in_view v n then opening l v k n ++ event_shapes (band_of l v n) k n e ++ closing_after l v (tracked_after n e k) n else []
 
--- all that an event that fails adds, where it is drawn: it ends its band
+-- all that an event that fails adds, where it is drawn: it ends its band, and the bars that go on end before it
 unfoldable pub failing_text : Layout → DrawnRange → Tracked → ℕ → Event → Broken → List ℕ
 failing_text l v k n e why =
     if in_view v n then
-    opening l v k n ++ (number_text (band_of l v n) n ++ failed_text (band_of l v n) n e why)
-    ++ closing l v (band_of l v n) k (n + 1)
+    opening l v k n ++ bars_on l (on_to (band_of l v n) n) k ++ (number_text (band_of l v n) n ++ failed_text (band_of l v n) n e why)
+    ++ band_end l v (band_of l v n) k (n + 1)
     else []

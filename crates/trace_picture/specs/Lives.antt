@@ -1,19 +1,15 @@
 -- The rows of threads that begin and end: a row goes from its thread's fork to its end.
-use Rattle.std.specs.Prelude.{ℕ, ◌+◌, ◌-◌, nat_le, Bool, true, if◌then◌else◌, List, [], ◌++◌, codes, Some, None}
-use Rattle.std.specs.declared.option.Option.{Option}
+use Rattle.std.specs.Prelude.{ℕ, ◌+◌, ◌-◌, Bool, true, if◌then◌else◌, List, [], ◌++◌, codes}
 use Rattle.larch_actions.specs.declared.event.Version.{Version}
 use Rattle.larch_actions.specs.declared.event.Version.TheVariants.{One, Two}
-use Rattle.trace_board.specs.declared.history.Origin.{Origin}
 use Rattle.trace_board.specs.declared.history.Change.{Change}
 use Rattle.trace_board.specs.declared.history.Change.TheVariants.{Begins, Ends, Stays}
-use Rattle.trace_board.specs.Tracked.{Tracked, life_in, forked_by}
+use Rattle.trace_board.specs.Tracked.{Tracked, life_in}
 use Rattle.trace_board.specs.Laws.{is_live}
 use Rattle.trace_shapes.specs.declared.view.Band.{Band}
-use Rattle.trace_shapes.specs.declared.view.Link.{Link}
 use Rattle.trace_shapes.specs.declared.geometry.TheConstants.{COLUMN, ROW_RIGHT}
 use Rattle.trace_shapes.specs.Places.{event_x, row_y, row_height}
-use Rattle.trace_shapes.specs.Shapes.{with_number, each_below, place_text, row_name, row_text}
-use Rattle.trace_shapes.specs.Arrows.{link, bow_text, bow_x, bow_y, bow_head, origin_text}
+use Rattle.trace_shapes.specs.Shapes.{with_number, place_text, row_name, row_text}
 
 -- the thread t has a row at the start of a band: it lives
 abbrev pub has_row : Version → Tracked → ℕ → Bool
@@ -40,21 +36,3 @@ abbrev pub life_row : Band → ℕ → Change → List ℕ
 life_row b n (Begins t) = row_from b (event_x b n) t
 life_row b n (Ends t) = row_until b (event_x b n + COLUMN) t
 life_row b n Stays = []
-
--- which event forks the thread t
-unfoldable pub birth_words : ℕ → Origin → List ℕ
-birth_words t o = origin_text o ++ with_number (codes " forks t") t ++ codes "</title></path>\n"
-
--- the arrow from the fork to where the row of the thread begins, in the band up to the event before the place of the link
-unfoldable pub birth_text : Link → List ℕ
-birth_text k = bow_text (bow_x k) (bow_y k) (bow_x k + 6) (bow_head k) ++ birth_words k.to k.from
-
--- that arrow, where the fork is in the band
-abbrev pub birth_if : Band → ℕ → ℕ → Option Origin → List ℕ
-birth_if b to t None = []
-birth_if b to t (Some o) = if nat_le b.start o.place then birth_text (link b to t o) else []
-
--- the arrows to the rows of threads that have had no event
-abbrev pub births : Version → Band → Tracked → ℕ → ℕ → List ℕ
-births One b k to threads = []
-births Two b k to threads = each_below (λ t. birth_if b to t (forked_by k t)) threads

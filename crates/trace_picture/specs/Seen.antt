@@ -6,7 +6,7 @@ use Rattle.larch_actions.specs.declared.event.ThreadId.{ThreadId}
 use Rattle.larch_actions.specs.declared.event.Event.{Event}
 use Rattle.larch_actions.specs.declared.event.Action.{Action}
 use Rattle.larch_actions.specs.declared.event.Action.TheVariants.{Acquire, Release, Enqueue, Resume, AlertEnqueue, AlertReturn, AlertRaise, Signal, Broadcast, P, V, Alert, TestAlert, AlertPReturn, AlertPRaise, Fork, End, Join}
-use Rattle.larch_actions.specs.Actions.{Spec, IsRun, MayAct}
+use Rattle.larch_actions.specs.Actions.{Spec, acted, IsRun, MayAct}
 use Rattle.trace_board.specs.declared.history.Origin.{Origin}
 use Rattle.trace_board.specs.declared.history.Change.TheVariants.{Ends}
 use Rattle.trace_board.specs.declared.rows.Bar.{Bar}
@@ -14,15 +14,17 @@ use Rattle.trace_board.specs.declared.rows.Bar.TheVariants.{Mutex, Semaphore}
 use Rattle.trace_shapes.specs.declared.view.DrawnRange.{DrawnRange}
 use Rattle.trace_shapes.specs.Looks.{look_of}
 use Rattle.trace_board.specs.Marks.{marks, marks_of}
-use Rattle.trace_board.specs.Tracked.{Tracked, tracked_since, extended, longest_in, forked_by}
+use Rattle.trace_board.specs.History.{origin_of}
+use Rattle.trace_board.specs.Tracked.{Tracked, tracked_since, extended, longest_in, forked_by, let_on_by}
 use Rattle.trace_shapes.specs.declared.view.Band.{Band}
 use Rattle.trace_shapes.specs.declared.geometry.TheConstants.{BAND, COLUMN, LEFT, AXIS, MARK_TOP, LANE_TOP, LANE, BAR_GAP, ROW_RIGHT}
 use Rattle.trace_shapes.specs.Places.{in_view, column, band_of, lanes_of, row_step, row_height, bar_x, bar_width}
-use Rattle.trace_shapes.specs.Shapes.{each_below, place_text, box_text, row_text, with_number}
-use Rattle.trace_shapes.specs.Arrows.{link, arrow_text}
+use Rattle.trace_shapes.specs.Shapes.{each_below, place_text, box_text, row_text, parts_text, with_number}
+use Rattle.trace_shapes.specs.declared.view.Shape.TheVariants.{Joined}
+use Rattle.trace_shapes.specs.Arrows.{link, arrow_text, wake_text, fork_text}
 use Rattle.trace_picture.specs.Bands.{up_to, opening, step_text}
 use Rattle.trace_picture.specs.Picture.{end_text}
-use Rattle.trace_board.specs.Laws.{IsSince, IsMadeBy, HasEvent, is_live, is_ended}
+use Rattle.trace_board.specs.Laws.{IsSince, IsMadeBy, HasEvent, is_live, is_ended, awaited_by}
 
 -- the kinds of actions, in the order of the table
 abbrev pub kind_of : Action → ℕ
@@ -78,7 +80,8 @@ pub record IsBarTo (whole : List ℕ) (past : List Event) (name : List ℕ) (x :
   pub o : Origin
   pub lane : ℕ
   pub since : IsSince x o past
-  pub drawn : HasText whole (name ++ box_text (bar_x (up_to b n) o) (upper_of l o.thread.0 + LANE_TOP + LANE * lane) (bar_width (up_to b n) o))
+  pub drawn : HasText whole (name
+      ++ box_text (bar_x (up_to b n) o) (upper_of l o.thread.0 + LANE_TOP + LANE * lane) (bar_width (up_to b n) o))
   pub from_taking : b.start ≤ o.place → bar_x (up_to b n) o ≡ LEFT + COLUMN * (o.place - b.start)
   pub from_before : o.place < b.start → bar_x (up_to b n) o ≡ LEFT
   pub ends : bar_x (up_to b n) o + bar_width (up_to b n) o ≡ LEFT + COLUMN * (n + 1 - b.start) - BAR_GAP
@@ -130,15 +133,44 @@ JoinsAreDrawn =
     (l : Layout) (v : DrawnRange) (es : List Event) (s : Spec) → IsRun l.version es s → (e : Event) → MayAct s e → (who : ThreadId)
     → e.action ≡ Join who → in_view v (length es) ≡ true
     → (o : Origin) × IsMadeBy l.version (λ z. is_ended (z.life who.0)) es s o
-    × HasText (step_text l v (tracked_since (extended [] es)) (length es) e) (arrow_text (link (band_of l v (length es)) (length es) e.thread.0 o))
+    × HasText (step_text l v (tracked_since (extended [] es)) (length es) e)
+    (arrow_text Joined (link (band_of l v (length es)) (length es) e.thread.0 o))
 
--- The first event of each thread that was forked has, in view, an arrow from its fork.
+-- Each fork in view has, in its own column, an arrow into the row of the thread that it forks.
 abbrev pub ForksAreDrawn : Type 0
 ForksAreDrawn =
+    (l : Layout) (v : DrawnRange) (k : Tracked) (n : ℕ) (e : Event) (who : ThreadId) → e.action ≡ Fork who → in_view v n ≡ true
+    → HasText (step_text l v k n e) (fork_text (band_of l v n) (origin_of n e) who.0)
+
+-- Before the first event of each thread that was forked one event made the thread live, as it has since, and that event has, in view, this arrow.
+abbrev pub BirthsAreDrawn : Type 0
+BirthsAreDrawn =
     (l : Layout) (v : DrawnRange) (es : List Event) (s : Spec) → IsRun l.version es s → (e : Event) → MayAct s e → (o : Origin)
-    → forked_by (tracked_since (extended [] es)) e.thread.0 ≡ Some o → in_view v (length es) ≡ true
-    → IsMadeBy l.version (λ z. is_live (z.life e.thread.0)) es s o × (HasEvent e.thread.0 0 (extended [] es) → ⊥)
-    × HasText (step_text l v (tracked_since (extended [] es)) (length es) e) (arrow_text (link (band_of l v (length es)) (length es) e.thread.0 o))
+    → forked_by (tracked_since (extended [] es)) e.thread.0 ≡ Some o → in_view v o.place ≡ true
+    → (m : IsMadeBy l.version (λ z. is_live (z.life e.thread.0)) es s o) × (HasEvent e.thread.0 0 (extended [] es) → ⊥)
+    × HasText (step_text l v (tracked_since (extended [] m.before)) (length m.before) m.cause) (fork_text (band_of l v o.place) o e.thread.0)
+
+-- the action is a Signal or a Broadcast of the condition c
+abbrev pub IsSignal : ℕ → Action → Type 0
+IsSignal c (Signal d left) = d.0 ≡ c
+IsSignal c (Broadcast d) = d.0 ≡ c
+IsSignal c _ = ⊥
+
+-- Each thread that a Signal or a Broadcast in view takes out of its condition has an arrow into its row, in the column of that event.
+abbrev pub SignalsAreDrawn : Type 0
+SignalsAreDrawn =
+    (l : Layout) (v : DrawnRange) (es : List Event) (s : Spec) → IsRun l.version es s → (e : Event) → (c u : ℕ) → IsSignal c e.action
+    → s.members c u ≡ true → (acted e.thread.0 s e.action).members c u ≡ false → u < l.threads → in_view v (length es) ≡ true
+    → HasText (step_text l v (tracked_since (extended [] es)) (length es) e) (wake_text (band_of l v (length es)) (origin_of (length es) e) u)
+
+-- Each event in view that ends a wait, which another event let end, has the parts of this wait: in the condition up to that event, which made hold what its thread
+-- waited for, and let go on from there.
+abbrev pub WaitsAreDrawn : Type 0
+WaitsAreDrawn =
+    (l : Layout) (v : DrawnRange) (es : List Event) (s : Spec) → IsRun l.version es s → (e : Event) → MayAct s e → (t : ℕ) (o by : Origin)
+    → (marks e).wait ≡ Ends t → (tracked_since (extended [] es)).waits t ≡ Some o → let_on_by (tracked_since (extended [] es)) (marks e).waker ≡ Some by
+    → in_view v (length es) ≡ true → IsMadeBy l.version (awaited_by e.thread.0 e.action) es s by
+    × HasText (step_text l v (tracked_since (extended [] es)) (length es) e) (parts_text (up_to (band_of l v (length es)) (length es)) o (Some by))
 
 -- The last lines of a picture show the longest hold of each mutex: by whom, how many events, from which event to which, or that there is none.
 abbrev pub HoldsAreReported : Type 0

@@ -2,21 +2,22 @@
 ghost use Rattle.std.specs.Prelude.{◌≡◌, ◌+◌, ◌-◌, ◌*◌, ◌<◌, ◌≤◌, ◌^◌, ◌++◌, length, take, codes, false, ℕ, None};
 ghost use Rattle.larch_actions.specs.Layout.{IsLawful, HasNames};
 ghost use Rattle.trace_board.specs.History.{entry_of, IsWithin};
-ghost use Rattle.trace_board.specs.Tracked.{tracked_of, tracked_after, IsNoted};
+ghost use Rattle.trace_board.specs.Causes.{cause_of};
+ghost use Rattle.trace_board.specs.Tracked.{tracked_of, tracked_after, came, IsNoted, IsNear};
 ghost use Rattle.trace_board.specs.Marks.{marks};
 ghost use Rattle.trace_shapes.specs.Places.{in_view, column, is_open, band_of, first_top, band_height, band_top};
 ghost use Rattle.trace_shapes.specs.Shapes.{with_number, each_below, number_text, object_if, failed_text};
-ghost use Rattle.trace_picture.specs.Bands.{band_number, lines_height, lines_text, band_tag, opening, on_to, up_to, strip_of, taken_strip, bar_if, taken_if, wait_if, bars_on, closing, bar_ended, taken_ended, wait_ended, closing_after, bars_ended, arrow_to, event_shapes, step_text, failing_text};
+ghost use Rattle.trace_picture.specs.Bands.{band_number, lines_height, lines_text, band_tag, opening, on_to, up_to, strip_of, taken_strip, bar_if, taken_if, wait_if, bars_on, band_end, closing, bar_ended, taken_ended, wait_ended, closing_after, bars_ended, event_shapes, step_text, failing_text};
 
-use crate::lives::{add_births, add_life_row, add_rows};
+use crate::arrows::add_arrows;
+use crate::lives::{add_life_row, add_rows};
 use crate::overview::add_column;
 use larch_actions::{Broken, Event, Layout, Version};
-use trace_board::board::TraceState;
+use trace_board::board::{Reason, TraceState};
 use trace_board::history::{Change, Origin};
 use trace_board::marks::{Effects, marks_of};
 use trace_board::rows::Bar;
 use trace_core::add;
-use trace_shapes::arrows::add_arrow_if;
 use trace_shapes::geometry::{AXIS, BAND, BAND_GAP, LINES_TOP, TOP_ONE, TOP_TWO};
 use trace_shapes::shapes::{
     add_bar, add_failed, add_label, add_mark, add_object_if, add_taken_bar, add_wait_bar, row_step,
@@ -106,9 +107,9 @@ fn add_opening(
 ) -> usize
     requires lawful { IsLawful layout.now }
     requires few { place < 2 ^ 41 }
-    requires room { at + 65000 ≤ length buf.old }
+    requires room { at + 44000 ≤ length buf.old }
     ensures text { take result buf.new ≡ take at buf.old ++ opening layout.now view.now (tracked_of board.now) place }
-    ensures near { result ≤ at + 65000 }
+    ensures near { result ≤ at + 44000 }
 {
     if column_of(view, place) == 0 {
         let band = band_of(layout, view, place);
@@ -164,16 +165,21 @@ fn add_taken_if(buf: &mut [u8], at: usize, reach: &Reach, board: &TraceState, se
     }
 }
 
-// Adds the wait of a thread where it waits.
-fn add_wait_if(buf: &mut [u8], at: usize, reach: &Reach, board: &TraceState, thread: u32) -> usize
-    requires few { thread < 256 }
-    requires room { at + 480 ≤ length buf.old }
+// Adds the wait of a thread where it waits, which this event let go on.
+fn add_wait_if(
+    buf: &mut [u8],
+    at: usize,
+    reach: &Reach,
+    since: Option<Origin>,
+    by: Option<Origin>,
+) -> usize
+    requires room { at + 710 ≤ length buf.old }
     requires place { reach.now.to < 2 ^ 42 }
-    ensures text { take result buf.new ≡ take at buf.old ++ wait_if reach.now (entry_of board.now.waits thread) }
-    ensures near { result ≤ at + 480 }
+    ensures text { take result buf.new ≡ take at buf.old ++ wait_if reach.now by since }
+    ensures near { result ≤ at + 710 }
 {
-    match board.waits.at(thread) {
-        Some(o) => add_wait_bar(buf, at, reach, &o),
+    match since {
+        Some(o) => add_wait_bar(buf, at, reach, &o, by),
         None => at,
     }
 }
@@ -220,13 +226,15 @@ fn add_takings(
 fn add_waits(buf: &mut [u8], at: usize, reach: &Reach, board: &TraceState, threads: u32) -> usize
     requires few { threads ≤ 256 }
     requires place { reach.now.to < 2 ^ 42 }
-    requires room { at + 480 * threads ≤ length buf.old }
-    ensures text { take result buf.new ≡ take at buf.old ++ each_below (λ t. wait_if reach.now (entry_of board.now.waits t)) threads }
-    ensures near { result ≤ at + 480 * threads }
+    requires room { at + 710 * threads ≤ length buf.old }
+    ensures text { take result buf.new ≡ take at buf.old ++ each_below (λ t. wait_if reach.now (came (cause_of board.now.stands t))
+        (entry_of board.now.waits t)) threads }
+    ensures near { result ≤ at + 710 * threads }
 {
     let mut last = at;
     for t in 0..threads {
-        last = add_wait_if(buf, last, reach, board, t);
+        let by = board.waker(Reason::Condition(t));
+        last = add_wait_if(buf, last, reach, board.waits.at(t), by);
     }
     last
 }
@@ -242,17 +250,39 @@ fn add_bars_on(
 ) -> usize
     requires lawful { IsLawful layout.now }
     requires place { reach.now.to < 2 ^ 42 }
-    requires room { at + 194000 ≤ length buf.old }
+    requires room { at + 252200 ≤ length buf.old }
     ensures text { take result buf.new ≡ take at buf.old ++ bars_on layout.now reach.now (tracked_of board.now) }
-    ensures near { result ≤ at + 194000 }
+    ensures near { result ≤ at + 252200 }
 {
     let at = add_bars(buf, at, reach, board, layout.mutexes);
     let at = add_takings(buf, at, reach, board, layout.semaphores);
     add_waits(buf, at, reach, board, layout.threads)
 }
 
+// Adds the last tag of a band, and its column of the overview up to the event before `to`.
+#[tactic(auto, unfolding(crate::specs::Bands::band_end))]
+fn add_band_end(
+    buf: &mut [u8],
+    at: usize,
+    layout: &Layout,
+    view: &DrawnRange,
+    band: &Band,
+    board: &TraceState,
+    to: u64,
+) -> usize
+    requires lawful { IsLawful layout.now }
+    requires start { band.now.start < 2 ^ 42 }
+    requires room { at + 40010 ≤ length buf.old }
+    ensures text { take result buf.new ≡ take at buf.old ++ band_end layout.now view.now band.now (tracked_of board.now) to }
+    ensures near { result ≤ at + 40010 }
+{
+    let at = add(buf, at, b"</g>\n");
+    let number = number_of(view, band);
+    add_column(buf, at, layout, board, number, band.start, to)
+}
+
 /// Adds the end of a band, before the event `to`.
-#[tactic(auto, using(larch_actions::proofs::Names::few_threads), unfolding(crate::specs::Bands::closing))]
+#[tactic(auto, unfolding(crate::specs::Bands::closing))]
 pub fn add_closing(
     buf: &mut [u8],
     at: usize,
@@ -265,9 +295,9 @@ pub fn add_closing(
     requires lawful { IsLawful layout.now }
     requires start { band.now.start < 2 ^ 42 }
     requires place { to < 2 ^ 42 }
-    requires room { at + 330000 ≤ length buf.old }
+    requires room { at + 292300 ≤ length buf.old }
     ensures text { take result buf.new ≡ take at buf.old ++ closing layout.now view.now band.now (tracked_of board.now) to }
-    ensures near { result ≤ at + 330000 }
+    ensures near { result ≤ at + 292300 }
 {
     let reach = Reach {
         band: *band,
@@ -275,10 +305,7 @@ pub fn add_closing(
         ended: false,
     };
     let at = add_bars_on(buf, at, layout, &reach, board);
-    let at = add_births(buf, at, layout, band, board, to);
-    let at = add(buf, at, b"</g>\n");
-    let number = number_of(view, band);
-    add_column(buf, at, layout, board, number, band.start, to)
+    add_band_end(buf, at, layout, view, band, board, to)
 }
 
 // Adds the end of a band after the event, where it is full or the part that is drawn ends.
@@ -293,9 +320,9 @@ fn add_closing_after(
 ) -> usize
     requires lawful { IsLawful layout.now }
     requires few { place < 2 ^ 41 }
-    requires room { at + 330000 ≤ length buf.old }
+    requires room { at + 292300 ≤ length buf.old }
     ensures text { take result buf.new ≡ take at buf.old ++ closing_after layout.now view.now (tracked_of board.now) place }
-    ensures near { result ≤ at + 330000 }
+    ensures near { result ≤ at + 292300 }
 {
     if is_band_open(view, place + 1) {
         at
@@ -347,22 +374,23 @@ fn add_taken_ended(
     }
 }
 
-// Adds the wait that ends with the event.
+// Adds the wait that ends with the event, which this other let go on.
 fn add_wait_ended(
     buf: &mut [u8],
     at: usize,
     reach: &Reach,
     board: &TraceState,
+    by: Option<Origin>,
     effect: Change,
 ) -> usize
     requires within { IsWithin effect }
     requires few { reach.now.to < 2 ^ 42 }
-    requires room { at + 480 ≤ length buf.old }
-    ensures text { take result buf.new ≡ take at buf.old ++ wait_ended reach.now (tracked_of board.now) effect }
-    ensures near { result ≤ at + 480 }
+    requires room { at + 710 ≤ length buf.old }
+    ensures text { take result buf.new ≡ take at buf.old ++ wait_ended reach.now (tracked_of board.now) by effect }
+    ensures near { result ≤ at + 710 }
 {
     match effect {
-        Change::Ends(t) => add_wait_if(buf, at, reach, board, t),
+        Change::Ends(t) => add_wait_if(buf, at, reach, board.waits.at(t), by),
         Change::Begins(_) => at,
         Change::Stays => at,
     }
@@ -379,40 +407,19 @@ fn add_bars_ended(
     requires held { IsWithin shown.now.mutex }
     requires taken { IsWithin shown.now.semaphore }
     requires waits { IsWithin shown.now.wait }
+    requires waker { IsNear shown.now.waker }
     requires few { reach.now.to < 2 ^ 42 }
-    requires room { at + 1580 ≤ length buf.old }
+    requires room { at + 2000 ≤ length buf.old }
     ensures text { take result buf.new ≡ take at buf.old ++ bars_ended reach.now (tracked_of board.now) shown.now }
-    ensures near { result ≤ at + 1580 }
+    ensures near { result ≤ at + 2000 }
 {
     let at = add_bar_ended(buf, at, reach, board, shown.mutex);
     let at = add_taken_ended(buf, at, reach, board, shown.semaphore);
-    add_wait_ended(buf, at, reach, board, shown.wait)
-}
-
-// Adds the arrow to the event, where another thread let its thread go on, and that to a thread's first event from its fork.
-fn add_arrow_to(
-    buf: &mut [u8],
-    at: usize,
-    band: &Band,
-    board: &TraceState,
-    place: u64,
-    e: &Event,
-    shown: &Effects,
-) -> usize
-    requires same { shown.now ≡ marks e.now }
-    requires noted { IsNoted e.now }
-    requires few { place < 2 ^ 41 }
-    requires room { at + 700 ≤ length buf.old }
-    ensures text { take result buf.new ≡ take at buf.old ++ arrow_to band.now (tracked_of board.now) place e.now }
-    ensures near { result ≤ at + 700 }
-{
     let by = board.waker(shown.waker);
-    let at = add_arrow_if(buf, at, band, place, e.thread.0, by);
-    let fork = board.forked_by(e.thread.0);
-    add_arrow_if(buf, at, band, place, e.thread.0, fork)
+    add_wait_ended(buf, at, reach, board, by, shown.wait)
 }
 
-// Adds the number of an event, the row that it begins or ends, its mark and the number of its object, the bars that it ends, and the arrows to it.
+// Adds the number of an event, the row that it begins or ends, its mark and the number of its object, the bars that it ends, and the arrows from it and to it.
 #[tactic(auto, unfolding(crate::specs::Bands::event_shapes))]
 fn add_event_shapes(
     buf: &mut [u8],
@@ -423,10 +430,11 @@ fn add_event_shapes(
     e: &Event,
 ) -> usize
     requires noted { IsNoted e.now }
+    requires threads { band.now.threads ≤ 256 }
     requires few { place < 2 ^ 41 }
-    requires room { at + 4600 ≤ length buf.old }
+    requires room { at + 99300 ≤ length buf.old }
     ensures text { take result buf.new ≡ take at buf.old ++ event_shapes band.now (tracked_of board.now) place e.now }
-    ensures near { result ≤ at + 4600 }
+    ensures near { result ≤ at + 99300 }
 {
     let shown = marks_of(e.thread, &e.action);
     let reach = Reach {
@@ -439,10 +447,16 @@ fn add_event_shapes(
     let at = add_mark(buf, at, band, place, e, &shown);
     let at = add_object_if(buf, at, band, place, e, &shown);
     let at = add_bars_ended(buf, at, &reach, board, &shown);
-    add_arrow_to(buf, at, band, board, place, e, &shown)
+    let by = Origin {
+        thread: e.thread,
+        object: shown.object,
+        place,
+    };
+    add_arrows(buf, at, band, board, &by, &shown)
 }
 
 // Adds what the event shows, and the end of its band, where it is drawn.
+#[tactic(auto, using(larch_actions::proofs::Names::few_threads))]
 fn add_drawn(
     buf: &mut [u8],
     at: usize,
@@ -455,12 +469,13 @@ fn add_drawn(
     requires lawful { IsLawful layout.now }
     requires noted { IsNoted e.now }
     requires few { place < 2 ^ 41 }
-    requires room { at + 400000 ≤ length buf.old }
+    requires room { at + 440000 ≤ length buf.old }
     ensures text { take result buf.new ≡ take at buf.old ++
-        (opening layout.now view.now (tracked_of board.old) place ++ event_shapes (band_of layout.now view.now place) (tracked_of board.old) place e.now
+        (opening layout.now view.now (tracked_of board.old) place
+        ++ event_shapes (band_of layout.now view.now place) (tracked_of board.old) place e.now
         ++ closing_after layout.now view.now (tracked_of board.new) place) }
     ensures kept { tracked_of board.new ≡ tracked_after place e.now (tracked_of board.old) }
-    ensures near { result ≤ at + 400000 }
+    ensures near { result ≤ at + 440000 }
 {
     let at = add_opening(buf, at, layout, view, board, place);
     let band = band_of(layout, view, place);
@@ -483,10 +498,10 @@ pub fn add_step(
     requires lawful { IsLawful layout.now }
     requires named { HasNames layout.now e.now }
     requires few { place < 2 ^ 41 }
-    requires room { at + 400000 ≤ length buf.old }
+    requires room { at + 440000 ≤ length buf.old }
     ensures text { take result buf.new ≡ take at buf.old ++ step_text layout.now view.now (tracked_of board.old) place e.now }
     ensures kept { tracked_of board.new ≡ tracked_after place e.now (tracked_of board.old) }
-    ensures near { result ≤ at + 400000 }
+    ensures near { result ≤ at + 440000 }
 {
     if is_in_view(view, place) {
         add_drawn(buf, at, layout, view, board, place, e)
@@ -506,9 +521,9 @@ fn add_failed_shapes(
     why: Broken,
 ) -> usize
     requires place { place < 2 ^ 42 }
-    requires room { at + 1700 ≤ length buf.old }
+    requires room { at + 1900 ≤ length buf.old }
     ensures text { take result buf.new ≡ take at buf.old ++ (number_text band.now place ++ failed_text band.now place e.now why) }
-    ensures near { result ≤ at + 1700 }
+    ensures near { result ≤ at + 1900 }
 {
     let at = add_label(buf, at, band, place);
     add_failed(buf, at, band, place, e, why)
@@ -534,9 +549,15 @@ pub fn add_failing(
 {
     if is_in_view(view, place) {
         let band = band_of(layout, view, place);
+        let reach = Reach {
+            band,
+            to: place,
+            ended: false,
+        };
         let at = add_opening(buf, at, layout, view, board, place);
+        let at = add_bars_on(buf, at, layout, &reach, board);
         let at = add_failed_shapes(buf, at, &band, place, e, why);
-        add_closing(buf, at, layout, view, &band, board, place + 1)
+        add_band_end(buf, at, layout, view, &band, board, place + 1)
     } else {
         at
     }

@@ -1,12 +1,14 @@
 //! The head of a picture: the first tag, the colours, and what each mark and colour means.
-ghost use Rattle.std.specs.Prelude.{◌≡◌, ◌+◌, ◌≤◌, ◌++◌, length, take, codes};
+ghost use Rattle.std.specs.Prelude.{◌≡◌, ◌+◌, ◌*◌, ◌≤◌, ◌++◌, length, take, codes};
+ghost use Rattle.larch_actions.specs.Layout.{IsLawful};
 ghost use Rattle.trace_shapes.specs.Shapes.{each_below};
 ghost use Rattle.trace_shapes.specs.Legend.{entry_at, life_legend};
-ghost use Rattle.trace_picture.specs.Picture.{style_text, pattern_text, other_words, many_style, many_if, over_words, head_text};
+ghost use Rattle.trace_picture.specs.Picture.{style_text, pattern_text, other_words, many_style, many_if, hover_text, over_words, head_text};
 
 use larch_actions::Layout;
 use trace_core::add;
 use trace_shapes::legend::{add_entries, add_life_legend};
+use trace_shapes::tags::add_with_number;
 
 // Adds the first tag and the colours.
 #[tactic(auto, unfolding(crate::specs::Picture::style_text))]
@@ -23,7 +25,7 @@ fn add_style(buf: &mut [u8], at: usize) -> usize
     let at = add(
         buf,
         at,
-        b"text{fill:#1f2328}.r{fill:#f3f4f6}.z{fill:#fff}.l{stroke:#d8dbe0}.n{fill:#6e7781;font-size:10px;text-anchor:middle}.y,.i{font-weight:bold}.i{text-anchor:middle}.s1,.x,.d{font-size:10px}.s2{font-size:9px;text-anchor:end}.s3{font-size:8px;text-anchor:end}.d{paint-order:stroke;stroke:#fff;stroke-width:3px}\n",
+        b"text{fill:#1f2328}.r{fill:#f3f4f6}.p,.z{fill:#fff}.l{stroke:#d8dbe0}.n{fill:#6e7781;font-size:10px;text-anchor:middle}.y,.i{font-weight:bold}.i{text-anchor:middle}.s1,.x,.hx{font-size:10px}.s2{font-size:9px;text-anchor:end}.s3{font-size:8px;text-anchor:end}.hx{paint-order:stroke;stroke:#fff;stroke-width:3px}\n",
     );
     let at = add(
         buf,
@@ -33,7 +35,7 @@ fn add_style(buf: &mut [u8], at: usize) -> usize
     add(
         buf,
         at,
-        b".h{fill:url(#h);stroke:#8c959f;stroke-width:.6}.o{fill:#fff}.k{fill:#d8dee4}.g{fill:#ffd866}.b{fill:#b6dcf5}.v{fill:#ffb8a3}.j{fill:#bfe3c3}.o,.k,.g,.b,.v,.j{stroke:#57606a;stroke-width:.8}\n",
+        b".h{fill:url(#h)}.d{fill:#fff3c4}.h,.d{stroke:#8c959f;stroke-width:.6}.o{fill:#fff}.k{fill:#d8dee4}.g{fill:#ffd866}.b{fill:#b6dcf5}.v{fill:#ffb8a3}.j{fill:#bfe3c3}.o,.k,.g,.b,.v,.j{stroke:#57606a;stroke-width:.8}\n",
     )
 }
 
@@ -47,19 +49,19 @@ fn add_pattern(buf: &mut [u8], at: usize) -> usize
     let at = add(
         buf,
         at,
-        b".u{display:none}.e{fill:#fff;stroke:#57606a;stroke-dasharray:3 2}.f{fill:#1f2328}.f+.i{fill:#fff}.a{fill:none;stroke:#a02c6b;stroke-width:1.6;marker-end:url(#a)}.c{fill:none;stroke:#cf222e;stroke-width:3}\n</style>\n",
+        b".u{display:none}.e{fill:#fff;stroke:#57606a;stroke-dasharray:3 2}.f{fill:#cf222e}.f+.i,.ft,.fe{fill:#fff}.ft,.fe{font-weight:bold;filter:url(#t)}.fe{text-anchor:end}.fl{stroke:#cf222e;stroke-width:2}.u0{fill:#57606a}.u1{fill:#c9ced5}.a{fill:none;stroke:#a02c6b;stroke-width:1.6;marker-end:url(#a)}.q{fill:none;stroke:#fff;stroke-width:4}.c{fill:none;stroke:#cf222e;stroke-width:3}\n@media (prefers-color-scheme:dark){text{fill:#e6edf3}.p,.z{fill:#0d1117}.r{fill:#1c2128}.n{fill:#9198a1}.l{stroke:#30363d}.q{stroke:#0d1117}.a{stroke:#ff8fc7}.ar{fill:#ff8fc7}.i,.s1,.s2,.s3,.x{fill:#1f2328}.m1+.x,.f+.i,.ft,.fe{fill:#fff}.hx{fill:#e6edf3;stroke:#0d1117}.hb{fill:#22272e}.d{fill:#5c4f17}.u0{fill:#adb5bd}.u1{fill:#3d444d}}\n</style>\n",
     );
     let at = add(
         buf,
         at,
-        b"<defs><pattern id='h' width='5' height='5' patternUnits='userSpaceOnUse' patternTransform='rotate(45)'><rect width='5' height='5' fill='#fff'/><rect width='2' height='5' fill='#b4bcc5'/></pattern>\n",
+        b"<defs><pattern id='h' width='5' height='5' patternUnits='userSpaceOnUse' patternTransform='rotate(45)'><rect class='hb' width='5' height='5' fill='#fff'/><rect width='2' height='5' fill='#b4bcc5'/></pattern>\n",
     );
     let at = add(
         buf,
         at,
-        b"<marker id='a' viewBox='0 0 6 6' refX='5' refY='3' markerWidth='7' markerHeight='7' markerUnits='userSpaceOnUse' orient='auto'><path d='M0 0L6 3L0 6z' fill='#a02c6b'/></marker></defs>\n",
+        b"<marker id='a' viewBox='0 0 6 6' refX='5' refY='3' markerWidth='7' markerHeight='7' markerUnits='userSpaceOnUse' orient='auto'><path class='ar' d='M0 0L6 3L0 6z' fill='#a02c6b'/></marker><filter id='t' x='-.05' y='-.15' width='1.1' height='1.3'><feFlood flood-color='#cf222e'/><feComposite in='SourceGraphic'/></filter></defs>\n",
     );
-    add(buf, at, b"<rect width='100%' height='100%' fill='#fff'/>\n")
+    add(buf, at, b"<rect class='p' width='100%' height='100%'/>\n")
 }
 
 // Adds what is no mark: the arrows, the bars and a wait.
@@ -77,7 +79,7 @@ fn add_other_words(buf: &mut [u8], at: usize) -> usize
     add(
         buf,
         at,
-        b"<rect class='m0' x='44' y='62' width='34' height='12' rx='2'/><text class='x' x='48' y='72'>m0</text><text x='83' y='72'>holds mutex m0</text><rect class='h' x='244' y='63' width='34' height='9'/><text class='d' x='248' y='71'>c0</text><text x='283' y='72'>waits in condition c0</text><text x='444' y='72'>beside a letter: the number of its condition, semaphore or thread</text>\n",
+        b"<rect class='m0' x='44' y='62' width='34' height='12' rx='2'/><text class='x' x='48' y='72'>m0</text><text x='83' y='72'>holds mutex m0</text><rect class='h' x='244' y='63' width='34' height='9'/><text class='hx' x='248' y='71'>c0</text><text x='283' y='72'>waits in condition c0</text><rect class='d' x='444' y='63' width='34' height='9'/><text x='483' y='72'>let go on, not yet resumed</text><text x='644' y='72'>beside a letter: the number of its condition, semaphore or thread</text>\n",
     )
 }
 
@@ -114,6 +116,43 @@ fn add_legend(buf: &mut [u8], at: usize) -> usize
     add_other_words(buf, at)
 }
 
+// Adds that over a bar of the mutex the bars of the others fade.
+#[tactic(auto, unfolding(crate::specs::Picture::hover_text))]
+fn add_hover(buf: &mut [u8], at: usize, mutex: u32) -> usize
+    requires { at + 130 ≤ length buf.old }
+    ensures text { take result buf.new ≡ take at buf.old ++ hover_text mutex }
+    ensures near { result ≤ at + 130 }
+{
+    let m = u64::from(mutex);
+    let at = add_with_number(buf, at, b"<style>.w:has(.m", m);
+    let at = add_with_number(buf, at, b":hover) rect[class^=m]:not(.m", m);
+    add(buf, at, b"){opacity:.25}</style>\n")
+}
+
+// The same of all mutexes.
+fn add_hovers(buf: &mut [u8], at: usize, mutexes: u32) -> usize
+    requires room { at + 130 * mutexes ≤ length buf.old }
+    ensures text { take result buf.new ≡ take at buf.old ++ each_below hover_text mutexes }
+    ensures near { result ≤ at + 130 * mutexes }
+{
+    let mut last = at;
+    for m in 0..mutexes {
+        last = add_hover(buf, last, m);
+    }
+    last
+}
+
+// Adds the looks of the mutexes.
+fn add_looks(buf: &mut [u8], at: usize, layout: &Layout) -> usize
+    requires lawful { IsLawful layout.now }
+    requires room { at + 11000 ≤ length buf.old }
+    ensures text { take result buf.new ≡ take at buf.old ++ (many_if layout.now.mutexes ++ each_below hover_text layout.now.mutexes) }
+    ensures near { result ≤ at + 11000 }
+{
+    let at = add_many_if(buf, at, layout.mutexes);
+    add_hovers(buf, at, layout.mutexes)
+}
+
 // Adds what may be moved down, and the words of the overview.
 #[tactic(auto, unfolding(crate::specs::Picture::over_words))]
 fn add_over_words(buf: &mut [u8], at: usize) -> usize
@@ -124,21 +163,22 @@ fn add_over_words(buf: &mut [u8], at: usize) -> usize
     add(
         buf,
         at,
-        b"<g class='w'>\n<text class='u' x='44' y='-4'>Overview: a column for fifty events, with the threads that had one and below them the mutexes that were held; it links to its band</text>\n",
+        b"<g class='w'>\n<text class='u' x='44' y='-4'>Overview: a column for fifty events, dark for the threads that had one, light for those that only wait, and below them the mutexes that were held; it links to its band</text>\n",
     )
 }
 
 /// Adds the head.
 #[tactic(auto, unfolding(crate::specs::Picture::head_text))]
 pub fn add_head(buf: &mut [u8], at: usize, layout: &Layout) -> usize
-    requires room { at + 20000 ≤ length buf.old }
+    requires lawful { IsLawful layout.now }
+    requires room { at + 30000 ≤ length buf.old }
     ensures text { take result buf.new ≡ take at buf.old ++ head_text layout.now }
-    ensures near { result ≤ at + 20000 }
+    ensures near { result ≤ at + 30000 }
 {
     let at = add_style(buf, at);
     let at = add_pattern(buf, at);
     let at = add_legend(buf, at);
-    let at = add_many_if(buf, at, layout.mutexes);
+    let at = add_looks(buf, at, layout);
     let at = add_over_words(buf, at);
     add_life_legend(buf, at, layout.version)
 }

@@ -1,5 +1,5 @@
 //! Laws of the picture. What a bar, an arrow and a longest hold say stands in the laws of trace_board.
-ghost use Rattle.trace_picture.specs.Seen.{MarksDiffer, EventsAreMarked, BarsAreDrawn, TakingsAreDrawn, RowsStand, RowsBegin, RowsEnd, JoinsAreDrawn, ForksAreDrawn, HoldsAreReported};
+ghost use Rattle.trace_picture.specs.Seen.{MarksDiffer, EventsAreMarked, BarsAreDrawn, TakingsAreDrawn, RowsStand, RowsBegin, RowsEnd, JoinsAreDrawn, ForksAreDrawn, BirthsAreDrawn, SignalsAreDrawn, WaitsAreDrawn, HoldsAreReported};
 
 /// Actions of different kinds have marks of different names, in which different letters are seen.
 pub fn marks_differ()
@@ -41,9 +41,24 @@ pub fn joins_are_drawn()
     ensures { JoinsAreDrawn }
 {}
 
-/// The first event of a thread has an arrow from the fork that made it live.
+/// A fork has an arrow into the row of its thread, in its own column.
 pub fn forks_are_drawn()
     ensures { ForksAreDrawn }
+{}
+
+/// Of a thread that was forked, the event that made it live has that arrow.
+pub fn births_are_drawn()
+    ensures { BirthsAreDrawn }
+{}
+
+/// A Signal or a Broadcast has an arrow into the row of each thread that it takes out, in its own column.
+pub fn signals_are_drawn()
+    ensures { SignalsAreDrawn }
+{}
+
+/// The end of a wait has its strip: in the condition up to the event that let its thread go on, and let go on from there.
+pub fn waits_are_drawn()
+    ensures { WaitsAreDrawn }
 {}
 
 /// The last lines show the longest hold of each mutex: by whom, how many events, and from which event to which.

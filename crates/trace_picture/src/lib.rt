@@ -7,6 +7,7 @@
 //! How the picture looks is no promise.
 #![tactic(auto)]
 
+mod arrows;
 mod bands;
 mod draw;
 mod endings;

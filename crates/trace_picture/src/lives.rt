@@ -1,21 +1,19 @@
 //! The rows of threads that begin and end, written into a buffer after its first `at` bytes. Each call returns where it ended.
 ghost use Rattle.std.specs.Prelude.{◌≡◌, ◌+◌, ◌-◌, ◌*◌, ◌<◌, ◌≤◌, ◌^◌, ◌++◌, length, take, codes};
-ghost use Rattle.trace_board.specs.Tracked.{tracked_of, forked_by};
+ghost use Rattle.trace_board.specs.Tracked.{tracked_of};
 ghost use Rattle.trace_board.specs.Laws.{is_live};
 ghost use Rattle.larch_actions.specs.Layout.{IsLawful};
-ghost use Rattle.trace_shapes.specs.Arrows.{link};
 ghost use Rattle.trace_shapes.specs.Shapes.{each_below};
-ghost use Rattle.trace_picture.specs.Lives.{has_row, row_if, row_box, row_from, row_until, life_row, birth_words, birth_text, birth_if, births};
+ghost use Rattle.trace_picture.specs.Lives.{has_row, row_if, row_box, row_from, row_until, life_row};
 
 use larch_actions::{Layout, Life, Version};
 use trace_board::board::TraceState;
-use trace_board::history::{Change, Origin};
+use trace_board::history::Change;
 use trace_core::add;
-use trace_shapes::arrows::{add_bow, add_origin, head_of, x_from, y_from};
 use trace_shapes::geometry::{COLUMN, ROW_RIGHT};
 use trace_shapes::shapes::{add_row, add_row_name, event_x, row_height, row_y};
 use trace_shapes::tags::{add_place, add_with_number};
-use trace_shapes::view::{Band, Link};
+use trace_shapes::view::Band;
 
 // Whether this is the life of one that lives.
 fn lives(life: Life) -> bool
@@ -49,9 +47,9 @@ fn add_row_if(
     t: u32,
 ) -> usize
     requires few { t < 256 }
-    requires room { at + 250 ≤ length buf.old }
+    requires room { at + 170 ≤ length buf.old }
     ensures text { take result buf.new ≡ take at buf.old ++ row_if layout.now.version band.now (tracked_of board.now) t }
-    ensures near { result ≤ at + 250 }
+    ensures near { result ≤ at + 170 }
 {
     if stands(layout.version, board, t) {
         add_row(buf, at, band, t)
@@ -70,9 +68,10 @@ pub fn add_rows(
     board: &TraceState,
 ) -> usize
     requires lawful { IsLawful layout.now }
-    requires room { at + 64000 ≤ length buf.old }
-    ensures text { take result buf.new ≡ take at buf.old ++ each_below (row_if layout.now.version band.now (tracked_of board.now)) layout.now.threads }
-    ensures near { result ≤ at + 64000 }
+    requires room { at + 43600 ≤ length buf.old }
+    ensures text { take result buf.new ≡ take at buf.old ++
+        each_below (row_if layout.now.version band.now (tracked_of board.now)) layout.now.threads }
+    ensures near { result ≤ at + 43600 }
 {
     let mut last = at;
     for t in 0..layout.threads {
@@ -130,101 +129,5 @@ pub fn add_life_row(buf: &mut [u8], at: usize, band: &Band, place: u64, effect: 
         Change::Begins(t) => add_row_from(buf, at, band, event_x(band, place), t),
         Change::Ends(t) => add_row_until(buf, at, band, event_x(band, place) + COLUMN, t),
         Change::Stays => at,
-    }
-}
-
-// Adds which event forks the thread.
-#[tactic(auto, unfolding(crate::specs::Lives::birth_words))]
-fn add_birth_words(buf: &mut [u8], at: usize, t: u32, o: &Origin) -> usize
-    requires { at + 150 ≤ length buf.old }
-    ensures text { take result buf.new ≡ take at buf.old ++ birth_words t o.now }
-    ensures near { result ≤ at + 150 }
-{
-    let at = add_origin(buf, at, o);
-    let at = add_with_number(buf, at, b" forks t", u64::from(t));
-    add(buf, at, b"</title></path>\n")
-}
-
-// Adds the arrow from the fork to where the row of the thread begins.
-#[tactic(auto, unfolding(crate::specs::Lives::birth_text))]
-fn add_birth(buf: &mut [u8], at: usize, link: &Link) -> usize
-    requires room { at + 350 ≤ length buf.old }
-    requires place { link.now.place < 2 ^ 42 }
-    ensures text { take result buf.new ≡ take at buf.old ++ birth_text link.now }
-    ensures near { result ≤ at + 350 }
-{
-    let x = x_from(link);
-    let y = y_from(link);
-    let at = add_bow(buf, at, x, y, x + 6, head_of(link));
-    add_birth_words(buf, at, link.to, &link.from)
-}
-
-// Adds that arrow, where the fork is in the band.
-fn add_birth_if(buf: &mut [u8], at: usize, band: &Band, to: u64, t: u32, o: Option<Origin>) -> usize
-    requires room { at + 350 ≤ length buf.old }
-    requires place { to < 2 ^ 42 }
-    ensures text { take result buf.new ≡ take at buf.old ++ birth_if band.now to t o }
-    ensures near { result ≤ at + 350 }
-{
-    match o {
-        Some(from) => {
-            if band.start <= from.place {
-                let link = Link {
-                    band: *band,
-                    place: to,
-                    to: t,
-                    from,
-                };
-                add_birth(buf, at, &link)
-            } else {
-                at
-            }
-        }
-        None => at,
-    }
-}
-
-// Adds the arrows to the rows of all threads that have had no event.
-fn add_each_birth(
-    buf: &mut [u8],
-    at: usize,
-    band: &Band,
-    board: &TraceState,
-    to: u64,
-    threads: u32,
-) -> usize
-    requires few { threads ≤ 256 }
-    requires place { to < 2 ^ 42 }
-    requires room { at + 350 * threads ≤ length buf.old }
-    ensures text { take result buf.new
-        ≡ take at buf.old ++ each_below (λ t. birth_if band.now to t (forked_by (tracked_of board.now) t)) threads }
-    ensures near { result ≤ at + 350 * threads }
-{
-    let mut last = at;
-    for t in 0..threads {
-        last = add_birth_if(buf, last, band, to, t, board.forked_by(t));
-    }
-    last
-}
-
-/// Adds the arrows to the rows of threads that have had no event, in the version that has forks.
-#[tactic(auto, using(larch_actions::proofs::Names::few_threads))]
-pub fn add_births(
-    buf: &mut [u8],
-    at: usize,
-    layout: &Layout,
-    band: &Band,
-    board: &TraceState,
-    to: u64,
-) -> usize
-    requires lawful { IsLawful layout.now }
-    requires place { to < 2 ^ 42 }
-    requires room { at + 90000 ≤ length buf.old }
-    ensures text { take result buf.new ≡ take at buf.old ++ births layout.now.version band.now (tracked_of board.now) to layout.now.threads }
-    ensures near { result ≤ at + 90000 }
-{
-    match layout.version {
-        Version::One => at,
-        Version::Two => add_each_birth(buf, at, band, board, to, layout.threads),
     }
 }

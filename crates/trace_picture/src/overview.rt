@@ -3,10 +3,11 @@ ghost use Rattle.std.specs.Prelude.{◌≡◌, ◌+◌, ◌-◌, ◌*◌, ◌/�
 ghost use Rattle.larch_actions.specs.Layout.{IsLawful};
 ghost use Rattle.trace_board.specs.Tracked.{tracked_of};
 ghost use Rattle.trace_shapes.specs.Shapes.{with_number, each_below, place_text};
-ghost use Rattle.trace_picture.specs.Overview.{columns_height, over_x, over_y, cell_text, ran_cell, held_cell, link_text, column_text, over_height, over_style};
+ghost use Rattle.trace_picture.specs.Overview.{columns_height, over_x, over_y, cell_text, waiting_cell, ran_cell, held_cell, link_text, column_text, over_height, over_style};
 
 use larch_actions::Layout;
 use trace_board::board::TraceState;
+use trace_board::history::Origin;
 use trace_core::add;
 use trace_shapes::tags::{add_place, add_with_number};
 use trace_shapes::view::{DrawnRange, count_bands};
@@ -16,9 +17,9 @@ use trace_shapes::view::{DrawnRange, count_bands};
 fn height_of_columns(layout: &Layout) -> u64
     requires { IsLawful layout.now }
     ensures height { result ≡ columns_height layout.now }
-    ensures small { result < 2 ^ 11 }
+    ensures small { result < 2 ^ 12 }
 {
-    4 * u64::from(layout.threads) + 4 * u64::from(layout.mutexes) + 24
+    6 * u64::from(layout.threads) + 6 * u64::from(layout.mutexes) + 30
 }
 
 // Adds a cell of a column.
@@ -29,10 +30,25 @@ fn add_cell(buf: &mut [u8], at: usize, x: u64, y: u64) -> usize
     ensures near { result ≤ at + 90 }
 {
     let at = add_place(buf, at, x, y);
-    add(buf, at, b"' width='11' height='3'/>\n")
+    add(buf, at, b"' width='11' height='5'/>\n")
 }
 
-// Adds the cell of a thread, where it had an event from the event `start` on.
+// Adds the cell of a thread that only waits.
+fn add_waiting(buf: &mut [u8], at: usize, since: Option<Origin>, x: u64, y: u64) -> usize
+    requires { at + 120 ≤ length buf.old }
+    ensures text { take result buf.new ≡ take at buf.old ++ waiting_cell since x y }
+    ensures near { result ≤ at + 120 }
+{
+    match since {
+        Some(_) => {
+            let at = add(buf, at, b"<rect class='u1");
+            add_cell(buf, at, x, y)
+        }
+        None => at,
+    }
+}
+
+// Adds the cell of a thread: where it had an event from the event `start` on, or where it only waits.
 fn add_ran(
     buf: &mut [u8],
     at: usize,
@@ -49,10 +65,10 @@ fn add_ran(
     ensures near { result ≤ at + 120 }
 {
     if board.has_run(start, t) {
-        let at = add(buf, at, b"<rect class='f");
-        add_cell(buf, at, x, y + 4 * u64::from(t))
+        let at = add(buf, at, b"<rect class='u0");
+        add_cell(buf, at, x, y + 6 * u64::from(t))
     } else {
-        at
+        add_waiting(buf, at, board.waits.at(t), x, y + 6 * u64::from(t))
     }
 }
 
@@ -74,7 +90,7 @@ fn add_held(
 {
     if board.was_held(start, m) {
         let at = add_with_number(buf, at, b"<rect class='m", u64::from(m));
-        add_cell(buf, at, x, y + 4 * u64::from(m))
+        add_cell(buf, at, x, y + 6 * u64::from(m))
     } else {
         at
     }
@@ -158,7 +174,7 @@ pub fn add_column(
 {
     let x = 44 + 12 * (band % 100);
     let y = band / 100 * height_of_columns(layout);
-    let low = y + 4 * u64::from(layout.threads) + 4;
+    let low = y + 6 * u64::from(layout.threads) + 6;
     let at = add_link(buf, at, band, start, to);
     let at = add_each_ran(buf, at, board, start, x, y, layout.threads);
     let at = add_each_held(buf, at, board, start, x, low, layout.mutexes);
@@ -200,10 +216,10 @@ pub fn add_over_style(
         let at = add_with_number(
             buf,
             at,
-            b"px)}.u{display:inline;transform:translate(0,calc(112px - ",
+            b"px)}.u{display:inline;transform:translate(0,112px) translate(0,-",
             height,
         );
-        add(buf, at, b"px))}</style>\n</svg>\n")
+        add(buf, at, b"px)}</style>\n</svg>\n")
     } else {
         add(buf, at, b"px}</style>\n</svg>\n")
     }

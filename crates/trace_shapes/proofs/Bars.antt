@@ -11,8 +11,8 @@ use Rattle.trace_shapes.specs.declared.view.Reach.{Reach}
 use Rattle.trace_shapes.specs.declared.view.Strip.{Strip}
 use Rattle.trace_shapes.specs.declared.geometry.TheConstants.{LETTER_LINE, WAIT_TOP, WAIT_LINE, NAME_LEFT, NAME_LINE}
 use Rattle.trace_shapes.specs.Places.{event_x, mark_y, row_y, lane_y, bar_x, bar_width, wait_x, wait_end}
-use Rattle.trace_shapes.specs.Shapes.{with_number, box_text, place_text, span_text, given_text, bar_box, bar_name, bar_text, taken_text, wait_name, wait_name_if, wait_box, wait_text, digits_of, number_left, object_text, failed_text, line_of, clause_word}
-use Rattle.trace_shapes.proofs.Added.{added_two, added_four, added_five, added_six}
+use Rattle.trace_shapes.specs.Shapes.{with_number, box_text, place_text, span_text, given_text, bar_box, bar_name, bar_text, taken_text, wait_name, wait_part, let_go_x, out_text, digits_of, number_left, object_text, failed_mark, line_of, clause_word}
+use Rattle.trace_shapes.proofs.Added.{added_four, added_five, added_six}
 
 pub added_bar_box : (r : Reach) (s : Strip) (x y w : ℕ) (old a : List ℕ) → x ≡ bar_x r s.since → y ≡ lane_y r.band s.since.thread.0 s.lane → w ≡ bar_width r s.since
     → a ≡ old ++ box_text x y w → a ≡ old ++ bar_box r s
@@ -44,25 +44,27 @@ added_taken r x s old a b c d e same one two three four five =
     let shape : ℕ → List ℕ = λ k. codes "<rect class='e" ++ bar_box r x ++ with_number (codes "' height='12' rx='2'><title>s") k ++ span_text (codes " taken by t") r x.since ++ bar_name (codes "'>s") r x in
     added_five old a b c _ _ _ _ _ one two three d e four five ∙ (λ i. old ++ shape (same i))
 
-pub added_wait_box : (r : Reach) (o : Origin) (x y w : ℕ) (old a b : List ℕ) → x ≡ wait_x r o → y ≡ row_y r.band o.thread.0 + WAIT_TOP → w ≡ wait_end r - wait_x r o
-    → a ≡ old ++ codes "<rect class='h" → b ≡ a ++ box_text x y w → b ≡ old ++ wait_box r o
-unfolding wait_box
-added_wait_box r o x y w old a b same_x same_y same_w one two = added_two old a b _ _ one two ∙ (λ i. old ++ (codes "<rect class='h" ++ box_text (same_x i) (same_y i) (same_w i)))
+pub added_wait_part : (tag : List ℕ) (r : Reach) (o : Origin) (x end y w k : ℕ) (old a b c d : List ℕ) → y ≡ row_y r.band o.thread.0 + WAIT_TOP → w ≡ end - x → k ≡ o.object
+    → a ≡ old ++ tag → b ≡ a ++ box_text x y w → c ≡ b ++ with_number (codes "' height='9'><title>wait on c") k → d ≡ c ++ span_text (codes " of t") r o
+    → d ≡ old ++ wait_part tag r o x end
+unfolding wait_part
+added_wait_part tag r o x end y w k old a b c d same_y same_w same one two three four =
+    added_four old a b c _ _ _ _ (codes "") one two three d four ∙ (λ i. old ++ (tag ++ box_text x (same_y i) (same_w i) ++ with_number (codes "' height='9'><title>wait on c") (same i) ++ span_text (codes " of t") r o))
 
-pub added_wait : (r : Reach) (o : Origin) (k : ℕ) (old a b c d e : List ℕ) → k ≡ o.object
-    → a ≡ old ++ wait_box r o → b ≡ a ++ with_number (codes "' height='9'><title>wait on c") k → c ≡ b ++ span_text (codes " of t") r o → d ≡ c ++ codes "</title></rect>\n" → e ≡ d ++ wait_name_if r o
-    → e ≡ old ++ wait_text r o
-unfolding wait_text
-added_wait r o k old a b c d e same one two three four five =
-    let shape : ℕ → List ℕ = λ z. wait_box r o ++ with_number (codes "' height='9'><title>wait on c") z ++ span_text (codes " of t") r o ++ codes "</title></rect>\n" ++ wait_name_if r o in
-    added_five old a b c _ _ _ _ _ one two three d e four five ∙ (λ i. old ++ shape (same i))
+pub added_out : (r : Reach) (o p : Origin) (x end t : ℕ) (old a b c d : List ℕ) → x ≡ let_go_x r o p → end ≡ wait_end r → t ≡ p.thread.0
+    → a ≡ old ++ wait_part (codes "<rect class='d") r o x end → b ≡ a ++ with_number (codes ", let go on by event ") p.place → c ≡ b ++ with_number (codes " of t") t → d ≡ c ++ codes "</title></rect>\n"
+    → d ≡ old ++ out_text r o p
+unfolding out_text
+added_out r o p x end t old a b c d same_x same_end same one two three four =
+    added_four old a b c _ _ _ _ (codes "") one two three d four
+    ∙ (λ i. old ++ (wait_part (codes "<rect class='d") r o (same_x i) (same_end i) ++ with_number (codes ", let go on by event ") p.place ++ with_number (codes " of t") (same i) ++ codes "</title></rect>\n"))
 
 pub added_wait_name : (r : Reach) (o : Origin) (x y k : ℕ) (old a b c d : List ℕ) → x ≡ wait_x r o → y ≡ row_y r.band o.thread.0 → k ≡ o.object
-    → a ≡ old ++ codes "<text class='d" → b ≡ a ++ place_text (x + NAME_LEFT) (y + WAIT_TOP + WAIT_LINE) → c ≡ b ++ with_number (codes "'>c") k → d ≡ c ++ codes "</text>\n"
+    → a ≡ old ++ codes "<text class='hx" → b ≡ a ++ place_text (x + NAME_LEFT) (y + WAIT_TOP + WAIT_LINE) → c ≡ b ++ with_number (codes "'>c") k → d ≡ c ++ codes "</text>\n"
     → d ≡ old ++ wait_name r o
 unfolding wait_name
 added_wait_name r o x y k old a b c d same_x same_y same one two three four =
-    let shape : ℕ → ℕ → ℕ → List ℕ = λ u v z. codes "<text class='d" ++ place_text (u + NAME_LEFT) (v + WAIT_TOP + WAIT_LINE) ++ with_number (codes "'>c") z ++ codes "</text>\n" in
+    let shape : ℕ → ℕ → ℕ → List ℕ = λ u v z. codes "<text class='hx" ++ place_text (u + NAME_LEFT) (v + WAIT_TOP + WAIT_LINE) ++ with_number (codes "'>c") z ++ codes "</text>\n" in
     added_four old a b c _ _ _ _ (codes "") one two three d four ∙ (λ i. old ++ shape (same_x i) (same_y i) (same i))
 
 pub added_object : (v : Band) (n : ℕ) (e : Event) (g x l y k : ℕ) (m : Effects) (old a b c d : List ℕ) → g ≡ digits_of m.object → x ≡ event_x v n → l ≡ number_left m.object → y ≡ row_y v e.thread.0 → m ≡ marks e → k ≡ m.object
@@ -78,6 +80,6 @@ added_object v n e g x l y k m old a b c d same_g same_x same_l same_y is same o
 
 pub added_failed : (v : Band) (n : ℕ) (e : Event) (why : Broken) (old a b c d f : List ℕ)
     → a ≡ old ++ codes "<use href='#F" → b ≡ a ++ place_text (event_x v n) (mark_y v e.thread.0) → c ≡ b ++ (codes "'><title>" ++ line_of n e) → d ≡ c ++ (codes " fails " ++ clause_word why) → f ≡ d ++ codes "</title></use>\n"
-    → f ≡ old ++ failed_text v n e why
-unfolding failed_text
+    → f ≡ old ++ failed_mark v n e why
+unfolding failed_mark
 added_failed v n e why old a b c d f one two three four five = added_five old a b c _ _ _ _ _ one two three d f four five

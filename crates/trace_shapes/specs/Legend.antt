@@ -38,7 +38,7 @@ entry_at n = entry_text (44 + 200 * (n % 6)) (6 + 18 * (n / 6)) (slice_index_or 
 -- what the further marks of version two say of rows
 unfoldable pub life_words : List ℕ
 life_words =
-    codes "<text x='644' y='90'>a row goes from its thread's fork to its end; arrows: from the fork on, and from the end to the join</text>\n"
+    codes "<text x='644' y='90'>a row goes from its thread's fork to its end</text>\n"
 
 -- the line that the legend has more in version two
 unfoldable pub life_line : List ℕ

@@ -35,7 +35,7 @@ lanes_of l = min (l.mutexes + l.semaphores) LANES
 
 -- the band of the event n
 abbrev pub band_of : Layout → DrawnRange → ℕ → Band
-band_of l v n = record { start = n - column v n; lanes = lanes_of l }
+band_of l v n = record { start = n - column v n; threads = l.threads; lanes = lanes_of l }
 
 -- how far below one another rows with so many lanes stand, and how high they are
 abbrev pub row_step : ℕ → ℕ

@@ -1,5 +1,5 @@
 -- The texts of marks, bars and rows.
-use Rattle.std.specs.Prelude.{ℕ, zero, suc, ◌+◌, ◌-◌, ◌%◌, ◌==◌, nat_lt, Bool, if◌then◌else◌, List, [], ◌∷◌, ◌++◌, codes, decimal, Some, None}
+use Rattle.std.specs.Prelude.{ℕ, zero, suc, ◌+◌, ◌-◌, ◌*◌, ◌%◌, ◌==◌, nat_lt, nat_le, min, max, Bool, if◌then◌else◌, List, [], ◌∷◌, ◌++◌, codes, decimal, Some, None}
 use Rattle.std.specs.declared.option.Option.{Option}
 use Rattle.larch_actions.specs.declared.event.Event.{Event}
 use Rattle.larch_actions.specs.declared.event.Broken.{Broken}
@@ -10,9 +10,9 @@ use Rattle.trace_board.specs.Marks.{marks}
 use Rattle.trace_shapes.specs.declared.view.Band.{Band}
 use Rattle.trace_shapes.specs.declared.view.Reach.{Reach}
 use Rattle.trace_shapes.specs.declared.view.Strip.{Strip}
-use Rattle.trace_shapes.specs.declared.geometry.TheConstants.{LETTER_LINE, WAIT_TOP, DIGIT_LEFT, DIGITS_END, NAME_LEFT, NAME_LINE, WAIT_LINE, NAMED_WAIT, MIDDLE}
+use Rattle.trace_shapes.specs.declared.geometry.TheConstants.{LETTER_LINE, WAIT_TOP, DIGIT_LEFT, DIGITS_END, NAME_LEFT, NAME_LINE, WAIT_LINE, NAMED_WAIT, MIDDLE, AXIS, FLAG_GAP, FLAG_TURN}
 use Rattle.trace_shapes.specs.Looks.{look_of, has_number}
-use Rattle.trace_shapes.specs.Places.{row_y, row_height, mark_y, lane_y, event_x, bar_x, bar_width, wait_x, wait_end}
+use Rattle.trace_shapes.specs.Places.{row_y, row_step, row_height, mark_y, lane_y, event_x, bar_x, bar_width, wait_x, wait_end}
 
 -- words and a number
 abbrev pub with_number : List ℕ → ℕ → List ℕ
@@ -65,11 +65,36 @@ object_text b n e =
 abbrev pub object_if : Band → ℕ → Event → List ℕ
 object_if b n e = if has_number (marks e).mark then object_text b n e else []
 
+abbrev pub clause_name : Broken → List ℕ
+clause_name broken.Order = codes "ORDER"
+clause_name broken.Requires = codes "REQUIRES"
+clause_name broken.When = codes "WHEN"
+clause_name broken.Ensures = codes "ENSURES"
+
+-- a line through the band at an event that fails
+unfoldable pub strike_text : Band → ℕ → List ℕ
+strike_text b n =
+    with_number (codes "<path class='fl' d='M") (event_x b n + MIDDLE) ++ with_number (codes " 19V") (AXIS + row_step b.lanes * b.threads)
+    ++ codes "'/>\n"
+
+-- a flag at its upper end, with what the event fails
+unfoldable pub flag_place : Band → ℕ → List ℕ
+flag_place b n =
+    if nat_lt (n - b.start) FLAG_TURN then with_number (codes "<text class='ft' y='13' x='") (event_x b n + MIDDLE + FLAG_GAP)
+    else with_number (codes "<text class='fe' y='13' x='") (event_x b n + MIDDLE - FLAG_GAP)
+
+unfoldable pub flag_text : Band → ℕ → Broken → List ℕ
+flag_text b n why = flag_place b n ++ with_number (codes "'>event ") n ++ (codes " fails " ++ clause_name why) ++ codes "</text>\n"
+
 -- the mark of an event that fails, with its line and what it fails
-unfoldable pub failed_text : Band → ℕ → Event → Broken → List ℕ
-failed_text b n e why =
+unfoldable pub failed_mark : Band → ℕ → Event → Broken → List ℕ
+failed_mark b n e why =
     codes "<use href='#F" ++ place_text (event_x b n) (mark_y b e.thread.0) ++ (codes "'><title>" ++ line_of n e)
     ++ (codes " fails " ++ clause_word why) ++ codes "</title></use>\n"
+
+-- the mark comes after the line, which it covers
+unfoldable pub failed_text : Band → ℕ → Event → Broken → List ℕ
+failed_text b n e why = strike_text b n ++ failed_mark b n e why ++ flag_text b n why
 
 -- where a bar ends
 unfoldable pub end_words : Bool → ℕ → List ℕ
@@ -109,24 +134,47 @@ taken_text r x =
     codes "<rect class='e" ++ bar_box r x ++ with_number (codes "' height='12' rx='2'><title>s") x.number
     ++ span_text (codes " taken by t") r x.since ++ bar_name (codes "'>s") r x
 
--- the name of the condition of a wait
+-- the name of the condition of a wait, where there is room for it
 unfoldable pub wait_name : Reach → Origin → List ℕ
 wait_name r o =
-    codes "<text class='d" ++ place_text (wait_x r o + NAME_LEFT) (row_y r.band o.thread.0 + WAIT_TOP + WAIT_LINE)
+    codes "<text class='hx" ++ place_text (wait_x r o + NAME_LEFT) (row_y r.band o.thread.0 + WAIT_TOP + WAIT_LINE)
     ++ with_number (codes "'>c") o.object ++ codes "</text>\n"
 
--- the same, where there is room for it
 abbrev pub wait_name_if : Reach → Origin → List ℕ
 wait_name_if r o = if nat_lt (wait_end r - wait_x r o) NAMED_WAIT then [] else wait_name r o
 
--- a wait in a condition
-unfoldable pub wait_box : Reach → Origin → List ℕ
-wait_box r o = codes "<rect class='h" ++ box_text (wait_x r o) (row_y r.band o.thread.0 + WAIT_TOP) (wait_end r - wait_x r o)
+-- a part of a wait, from one point to another
+unfoldable pub wait_part : List ℕ → Reach → Origin → ℕ → ℕ → List ℕ
+wait_part tag r o x end =
+    tag ++ box_text x (row_y r.band o.thread.0 + WAIT_TOP) (end - x) ++ with_number (codes "' height='9'><title>wait on c") o.object
+    ++ span_text (codes " of t") r o
 
-unfoldable pub wait_text : Reach → Origin → List ℕ
-wait_text r o =
-    wait_box r o ++ with_number (codes "' height='9'><title>wait on c") o.object ++ span_text (codes " of t") r o
-    ++ codes "</title></rect>\n" ++ wait_name_if r o
+-- that it is in its condition, up to this point
+unfoldable pub in_text : Reach → Origin → ℕ → List ℕ
+in_text r o end = wait_part (codes "<rect class='h") r o (wait_x r o) end ++ codes "</title></rect>\n"
+
+abbrev pub in_if : Reach → Origin → ℕ → List ℕ
+in_if r o end = if nat_lt (wait_x r o) end then in_text r o end else []
+
+-- from where on it was let go on by the event p, and that it was
+abbrev pub let_go_x : Reach → Origin → Origin → ℕ
+let_go_x r o p = max (wait_x r o) (if nat_le r.band.start p.place then event_x r.band (min p.place r.to) + MIDDLE else 0)
+
+unfoldable pub out_text : Reach → Origin → Origin → List ℕ
+out_text r o p =
+    wait_part (codes "<rect class='d") r o (let_go_x r o p) (wait_end r) ++ with_number (codes ", let go on by event ") p.place
+    ++ with_number (codes " of t") p.thread.0 ++ codes "</title></rect>\n"
+
+abbrev pub out_if : Reach → Origin → Origin → List ℕ
+out_if r o p = if nat_lt (let_go_x r o p) (wait_end r) then out_text r o p else []
+
+-- a wait: in the condition, and let go on but not yet resumed
+abbrev pub parts_text : Reach → Origin → Option Origin → List ℕ
+parts_text r o None = in_if r o (wait_end r)
+parts_text r o (Some p) = in_if r o (let_go_x r o p) ++ out_if r o p
+
+unfoldable pub wait_text : Reach → Origin → Option Origin → List ℕ
+wait_text r o p = parts_text r o p ++ wait_name_if r o
 
 -- the end of a row's tag, and its name
 unfoldable pub row_name : Band → ℕ → List ℕ

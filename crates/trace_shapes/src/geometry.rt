@@ -48,10 +48,32 @@ pub const NAME_LEFT: u64 = 4;
 pub const NAME_LINE: u64 = 10;
 
 pub const WAIT_LINE: u64 = 8;
+/// From the upper edge of a row to the head of an arrow from above and from below into it, and to the level of one that goes along it, if it comes
+/// from an earlier band.
+pub const HEAD_ABOVE: u64 = 7;
+
+pub const HEAD_BELOW: u64 = 18;
+
+pub const LEVEL: u64 = 1;
+
+pub const EARLIER: u64 = 3;
+/// How wide an arrow from an earlier band is.
+pub const HOOK: u64 = 9;
+/// From the upper edge of a mark to its middle.
+pub const MARK_MIDDLE: u64 = 7;
 /// How wide a wait is at least that has its name.
 pub const NAMED_WAIT: u64 = 20;
 /// How short of the next column a bar ends.
 pub const BAR_GAP: u64 = 2;
+/// Where the line through a band with an event that fails begins, the line of its flag's words, how far these are from it, and from which column on they
+/// stand left of it.
+pub const FLAG_TOP: u64 = 19;
+
+pub const FLAG_LINE: u64 = 13;
+
+pub const FLAG_GAP: u64 = 6;
+
+pub const FLAG_TURN: u64 = 25;
 /// How far below one another the lines of the legend and of the longest holds stand.
 pub const LINE: u64 = 18;
 /// The upper edge of the first band below the legend, in version one and two.

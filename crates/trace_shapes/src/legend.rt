@@ -256,7 +256,7 @@ fn add_life_line(buf: &mut [u8], at: usize) -> usize
     add(
         buf,
         at,
-        b"<text x='644' y='90'>a row goes from its thread's fork to its end; arrows: from the fork on, and from the end to the join</text>\n",
+        b"<text x='644' y='90'>a row goes from its thread's fork to its end</text>\n",
     )
 }
 

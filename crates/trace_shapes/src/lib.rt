@@ -13,4 +13,4 @@ pub mod shapes;
 pub mod tags;
 pub mod view;
 
-pub use view::{Band, DrawnRange, Link, Reach, Strip};
+pub use view::{Band, DrawnRange, Freeing, Link, Reach, Shape, Strip, Turn, Way};

@@ -1,13 +1,14 @@
-//! Marks, bars and rows, written into a buffer after its first `at` bytes. Each call says where it ended.
-ghost use Rattle.std.specs.Prelude.{◌≡◌, ◌+◌, ◌-◌, ◌%◌, ◌<◌, ◌≤◌, ◌^◌, ◌++◌, ◌∷◌, [], length, take, codes};
+//! Marks, bars and rows, written into a buffer after its first `at` bytes. Each call returns where it ended.
+ghost use Rattle.std.specs.Prelude.{◌≡◌, ◌+◌, ◌-◌, ◌*◌, ◌%◌, ◌<◌, ◌≤◌, ◌^◌, ◌++◌, ◌∷◌, [], length, take, codes};
 ghost use Rattle.trace_board.specs.Marks.{marks};
 ghost use Rattle.trace_shapes.specs.Looks.{look_of};
 ghost use Rattle.trace_shapes.specs.Places.{bar_from, bar_width, bar_x, column_x, event_x, lane_y, mark_y, row_y, row_step, row_height, wait_x, wait_end};
-ghost use Rattle.trace_shapes.specs.Shapes.{with_number, line_of, place_text, box_text, clause_word, mark_text, failed_text, end_words, span_text, giver_text, given_text, bar_box, bar_name, bar_text, taken_text, wait_name, wait_name_if, wait_box, wait_text, row_name, row_text, number_text, digits_of, number_left, object_text, object_if};
+ghost use Rattle.trace_shapes.specs.Shapes.{with_number, line_of, place_text, box_text, clause_word, clause_name, strike_text, flag_place, flag_text, mark_text, failed_mark, failed_text, end_words, span_text, giver_text, given_text, bar_box, bar_name, bar_text, taken_text, wait_name, wait_name_if, wait_part, in_text, in_if, let_go_x, out_text, out_if, parts_text, wait_text, row_name, row_text, number_text, digits_of, number_left, object_text, object_if};
 
 use crate::geometry::{
-    AXIS, BAR_GAP, COLUMN, DIGIT_LEFT, DIGITS_END, LANE, LANE_TOP, LEFT, LETTER_LINE, MARK_TOP,
-    MIDDLE, NAME_LEFT, NAME_LINE, NAMED_WAIT, ROW, ROW_GAP, WAIT_LINE, WAIT_TOP,
+    AXIS, BAR_GAP, COLUMN, DIGIT_LEFT, DIGITS_END, FLAG_GAP, FLAG_TURN, LANE, LANE_TOP, LEFT,
+    LETTER_LINE, MARK_TOP, MIDDLE, NAME_LEFT, NAME_LINE, NAMED_WAIT, ROW, ROW_GAP, WAIT_LINE,
+    WAIT_TOP,
 };
 use crate::legend::{has_number, look_of};
 use crate::tags::{add_box, add_line, add_place, add_with_number};
@@ -104,9 +105,9 @@ fn add_title(buf: &mut [u8], at: usize, place: u64, e: &Event) -> usize
 // Adds the place of an event's mark.
 fn add_mark_place(buf: &mut [u8], at: usize, band: &Band, place: u64, e: &Event) -> usize
     requires place { place < 2 ^ 42 }
-    requires room { at + 60 ≤ length buf.old }
+    requires room { at + 50 ≤ length buf.old }
     ensures text { take result buf.new ≡ take at buf.old ++ place_text (event_x band.now place) (mark_y band.now e.now.thread.0) }
-    ensures near { result ≤ at + 60 }
+    ensures near { result ≤ at + 50 }
 {
     add_place(buf, at, event_x(band, place), mark_y(band, e.thread.0))
 }
@@ -210,7 +211,103 @@ fn add_why(buf: &mut [u8], at: usize, why: Broken) -> usize
     add(buf, at, word_of(why))
 }
 
-/// Adds the mark of an event that fails.
+// The name of a clause.
+fn clause_name(why: Broken) -> &'static [u8]
+    ensures name { result.now ≡ clause_name why }
+    ensures short { length result.now ≤ 8 }
+{
+    match why {
+        Broken::Order => b"ORDER",
+        Broken::Requires => b"REQUIRES",
+        Broken::When => b"WHEN",
+        Broken::Ensures => b"ENSURES",
+    }
+}
+
+// The lower edge of the rows of a band.
+fn rows_end(band: &Band) -> u64
+    ensures { result ≡ AXIS + row_step band.now.lanes * band.now.threads }
+{
+    AXIS + row_step(band.lanes) * u64::from(band.threads)
+}
+
+// Adds a line through the band at an event that fails.
+#[tactic(auto, unfolding(crate::specs::Shapes::strike_text))]
+fn add_strike(buf: &mut [u8], at: usize, band: &Band, place: u64) -> usize
+    requires place { place < 2 ^ 42 }
+    requires room { at + 80 ≤ length buf.old }
+    ensures text { take result buf.new ≡ take at buf.old ++ strike_text band.now place }
+    ensures near { result ≤ at + 80 }
+{
+    let x = event_x(band, place) + MIDDLE;
+    let at = add_with_number(buf, at, b"<path class='fl' d='M", x);
+    let at = add_with_number(buf, at, b" 19V", rows_end(band));
+    add(buf, at, b"'/>\n")
+}
+
+// Adds where its flag stands.
+#[tactic(auto, unfolding(crate::specs::Shapes::flag_place))]
+fn add_flag_place(buf: &mut [u8], at: usize, band: &Band, place: u64) -> usize
+    requires place { place < 2 ^ 42 }
+    requires room { at + 60 ≤ length buf.old }
+    ensures text { take result buf.new ≡ take at buf.old ++ flag_place band.now place }
+    ensures near { result ≤ at + 60 }
+{
+    let x = event_x(band, place) + MIDDLE;
+    if place.saturating_sub(band.start) < FLAG_TURN {
+        add_with_number(buf, at, b"<text class='ft' y='13' x='", x + FLAG_GAP)
+    } else {
+        add_with_number(buf, at, b"<text class='fe' y='13' x='", x - FLAG_GAP)
+    }
+}
+
+// Adds the name of the clause that an event fails.
+fn add_clause(buf: &mut [u8], at: usize, why: Broken) -> usize
+    requires { at + 20 ≤ length buf.old }
+    ensures text { take result buf.new ≡ take at buf.old ++ (codes " fails " ++ clause_name why) }
+    ensures near { result ≤ at + 20 }
+{
+    let at = add(buf, at, b" fails ");
+    add(buf, at, clause_name(why))
+}
+
+// Adds the flag of an event that fails.
+#[tactic(auto, unfolding(crate::specs::Shapes::flag_text))]
+fn add_flag(buf: &mut [u8], at: usize, band: &Band, place: u64, why: Broken) -> usize
+    requires place { place < 2 ^ 42 }
+    requires room { at + 140 ≤ length buf.old }
+    ensures text { take result buf.new ≡ take at buf.old ++ flag_text band.now place why }
+    ensures near { result ≤ at + 140 }
+{
+    let at = add_flag_place(buf, at, band, place);
+    let at = add_with_number(buf, at, b"'>event ", place);
+    let at = add_clause(buf, at, why);
+    add(buf, at, b"</text>\n")
+}
+
+// Adds the mark of an event that fails.
+#[tactic(auto, unfolding(crate::specs::Shapes::failed_mark))]
+fn add_failed_mark(
+    buf: &mut [u8],
+    at: usize,
+    band: &Band,
+    place: u64,
+    e: &Event,
+    why: Broken,
+) -> usize
+    requires place { place < 2 ^ 42 }
+    requires room { at + 1580 ≤ length buf.old }
+    ensures text { take result buf.new ≡ take at buf.old ++ failed_mark band.now place e.now why }
+    ensures near { result ≤ at + 1580 }
+{
+    let at = add(buf, at, b"<use href='#F");
+    let at = add_mark_place(buf, at, band, place, e);
+    let at = add_title(buf, at, place, e);
+    let at = add_why(buf, at, why);
+    add(buf, at, b"</title></use>\n")
+}
+
+/// Adds an event that fails: a line through the band, its mark and a flag.
 #[tactic(auto, unfolding(crate::specs::Shapes::failed_text))]
 pub fn add_failed(
     buf: &mut [u8],
@@ -221,23 +318,21 @@ pub fn add_failed(
     why: Broken,
 ) -> usize
     requires place { place < 2 ^ 42 }
-    requires room { at + 1600 ≤ length buf.old }
+    requires room { at + 1800 ≤ length buf.old }
     ensures text { take result buf.new ≡ take at buf.old ++ failed_text band.now place e.now why }
-    ensures near { result ≤ at + 1600 }
+    ensures near { result ≤ at + 1800 }
 {
-    let at = add(buf, at, b"<use href='#F");
-    let at = add_mark_place(buf, at, band, place, e);
-    let at = add_title(buf, at, place, e);
-    let at = add_why(buf, at, why);
-    add(buf, at, b"</title></use>\n")
+    let at = add_strike(buf, at, band, place);
+    let at = add_failed_mark(buf, at, band, place, e, why);
+    add_flag(buf, at, band, place, why)
 }
 
 // Adds where a bar ends.
 #[tactic(auto, unfolding(crate::specs::Shapes::end_words))]
 fn add_end_words(buf: &mut [u8], at: usize, ended: bool, to: u64) -> usize
-    requires { at + 40 ≤ length buf.old }
+    requires { at + 30 ≤ length buf.old }
     ensures text { take result buf.new ≡ take at buf.old ++ end_words ended to }
-    ensures near { result ≤ at + 40 }
+    ensures near { result ≤ at + 30 }
 {
     if ended {
         add_with_number(buf, at, b" to event ", to.saturating_sub(1))
@@ -250,9 +345,9 @@ fn add_end_words(buf: &mut [u8], at: usize, ended: bool, to: u64) -> usize
 #[tactic(auto, unfolding(crate::specs::Shapes::span_text))]
 fn add_span(buf: &mut [u8], at: usize, of: &[u8], reach: &Reach, o: &Origin) -> usize
     requires short { length of.now ≤ 20 }
-    requires room { at + 140 ≤ length buf.old }
+    requires room { at + 105 ≤ length buf.old }
     ensures text { take result buf.new ≡ take at buf.old ++ span_text of.now reach.now o.now }
-    ensures near { result ≤ at + 140 }
+    ensures near { result ≤ at + 105 }
 {
     let at = add_with_number(buf, at, of, u64::from(o.thread.0));
     let at = add_with_number(buf, at, b" from event ", o.place);
@@ -319,9 +414,9 @@ fn width_of(reach: &Reach, o: &Origin) -> u64
 #[tactic(auto, unfolding(crate::specs::Shapes::bar_box))]
 fn add_bar_box(buf: &mut [u8], at: usize, reach: &Reach, strip: &Strip) -> usize
     requires place { reach.now.to < 2 ^ 42 }
-    requires room { at + 100 ≤ length buf.old }
+    requires room { at + 80 ≤ length buf.old }
     ensures text { take result buf.new ≡ take at buf.old ++ bar_box reach.now strip.now }
-    ensures near { result ≤ at + 100 }
+    ensures near { result ≤ at + 80 }
 {
     let x = left_of(reach, &strip.since);
     let y = lane_y(&reach.band, strip.since.thread.0, strip.lane);
@@ -408,13 +503,13 @@ fn wait_end(reach: &Reach) -> u64
 #[tactic(auto, unfolding(crate::specs::Shapes::wait_name))]
 fn add_wait_name(buf: &mut [u8], at: usize, reach: &Reach, o: &Origin) -> usize
     requires place { reach.now.to < 2 ^ 42 }
-    requires room { at + 120 ≤ length buf.old }
+    requires room { at + 100 ≤ length buf.old }
     ensures text { take result buf.new ≡ take at buf.old ++ wait_name reach.now o.now }
-    ensures near { result ≤ at + 120 }
+    ensures near { result ≤ at + 100 }
 {
     let x = wait_x(reach, o) + NAME_LEFT;
     let y = row_y(&reach.band, o.thread.0) + WAIT_TOP + WAIT_LINE;
-    let at = add(buf, at, b"<text class='d");
+    let at = add(buf, at, b"<text class='hx");
     let at = add_place(buf, at, x, y);
     let at = add_with_number(buf, at, b"'>c", u64::from(o.object));
     add(buf, at, b"</text>\n")
@@ -423,9 +518,9 @@ fn add_wait_name(buf: &mut [u8], at: usize, reach: &Reach, o: &Origin) -> usize
 // The same, where there is room for it.
 fn add_wait_name_if(buf: &mut [u8], at: usize, reach: &Reach, o: &Origin) -> usize
     requires place { reach.now.to < 2 ^ 42 }
-    requires room { at + 120 ≤ length buf.old }
+    requires room { at + 100 ≤ length buf.old }
     ensures text { take result buf.new ≡ take at buf.old ++ wait_name_if reach.now o.now }
-    ensures near { result ≤ at + 120 }
+    ensures near { result ≤ at + 100 }
 {
     let width = wait_end(reach).saturating_sub(wait_x(reach, o));
     if width < NAMED_WAIT {
@@ -435,43 +530,143 @@ fn add_wait_name_if(buf: &mut [u8], at: usize, reach: &Reach, o: &Origin) -> usi
     }
 }
 
-// Adds the box of a wait.
-#[tactic(auto, unfolding(crate::specs::Shapes::wait_box))]
-fn add_wait_box(buf: &mut [u8], at: usize, reach: &Reach, o: &Origin) -> usize
-    requires place { reach.now.to < 2 ^ 42 }
-    requires room { at + 120 ≤ length buf.old }
-    ensures text { take result buf.new ≡ take at buf.old ++ wait_box reach.now o.now }
-    ensures near { result ≤ at + 120 }
+// Adds a part of a wait.
+#[tactic(auto, unfolding(crate::specs::Shapes::wait_part))]
+fn add_wait_part(
+    buf: &mut [u8],
+    at: usize,
+    tag: &[u8],
+    reach: &Reach,
+    o: &Origin,
+    x: u64,
+    end: u64,
+) -> usize
+    requires short { length tag.now ≤ 20 }
+    requires room { at + 255 ≤ length buf.old }
+    ensures text { take result buf.new ≡ take at buf.old ++ wait_part tag.now reach.now o.now x end }
+    ensures near { result ≤ at + 255 }
 {
-    let x = wait_x(reach, o);
     let y = row_y(&reach.band, o.thread.0) + WAIT_TOP;
-    let width = wait_end(reach).saturating_sub(x);
-    let at = add(buf, at, b"<rect class='h");
-    add_box(buf, at, x, y, width)
+    let at = add(buf, at, tag);
+    let at = add_box(buf, at, x, y, end.saturating_sub(x));
+    let at = add_with_number(
+        buf,
+        at,
+        b"' height='9'><title>wait on c",
+        u64::from(o.object),
+    );
+    add_span(buf, at, b" of t", reach, o)
 }
 
-/// Adds a wait.
-#[tactic(auto, unfolding(crate::specs::Shapes::wait_text))]
-pub fn add_wait_bar(buf: &mut [u8], at: usize, reach: &Reach, o: &Origin) -> usize
+// Adds that it is in its condition, up to this point.
+#[tactic(auto, unfolding(crate::specs::Shapes::in_text))]
+fn add_in(buf: &mut [u8], at: usize, reach: &Reach, o: &Origin, end: u64) -> usize
     requires place { reach.now.to < 2 ^ 42 }
-    requires room { at + 480 ≤ length buf.old }
-    ensures text { take result buf.new ≡ take at buf.old ++ wait_text reach.now o.now }
-    ensures near { result ≤ at + 480 }
+    requires room { at + 271 ≤ length buf.old }
+    ensures text { take result buf.new ≡ take at buf.old ++ in_text reach.now o.now end }
+    ensures near { result ≤ at + 271 }
 {
-    let c = u64::from(o.object);
-    let at = add_wait_box(buf, at, reach, o);
-    let at = add_with_number(buf, at, b"' height='9'><title>wait on c", c);
-    let at = add_span(buf, at, b" of t", reach, o);
-    let at = add(buf, at, b"</title></rect>\n");
+    let x = wait_x(reach, o);
+    let at = add_wait_part(buf, at, b"<rect class='h", reach, o, x, end);
+    add(buf, at, b"</title></rect>\n")
+}
+
+fn add_in_if(buf: &mut [u8], at: usize, reach: &Reach, o: &Origin, end: u64) -> usize
+    requires place { reach.now.to < 2 ^ 42 }
+    requires room { at + 271 ≤ length buf.old }
+    ensures text { take result buf.new ≡ take at buf.old ++ in_if reach.now o.now end }
+    ensures near { result ≤ at + 271 }
+{
+    if wait_x(reach, o) < end {
+        add_in(buf, at, reach, o, end)
+    } else {
+        at
+    }
+}
+
+// From where on the wait was let go on by this event.
+fn let_go_x(reach: &Reach, o: &Origin, p: &Origin) -> u64
+    requires { reach.now.to < 2 ^ 42 }
+    ensures { result ≡ let_go_x reach.now o.now p.now }
+{
+    let x = wait_x(reach, o);
+    let from = if reach.band.start <= p.place {
+        event_x(&reach.band, p.place.min(reach.to)) + MIDDLE
+    } else {
+        0
+    };
+    x.max(from)
+}
+
+// Adds that the wait was let go on.
+#[tactic(auto, unfolding(crate::specs::Shapes::out_text))]
+fn add_out(buf: &mut [u8], at: usize, reach: &Reach, o: &Origin, p: &Origin) -> usize
+    requires place { reach.now.to < 2 ^ 42 }
+    requires room { at + 337 ≤ length buf.old }
+    ensures text { take result buf.new ≡ take at buf.old ++ out_text reach.now o.now p.now }
+    ensures near { result ≤ at + 337 }
+{
+    let x = let_go_x(reach, o, p);
+    let end = wait_end(reach);
+    let at = add_wait_part(buf, at, b"<rect class='d", reach, o, x, end);
+    let at = add_with_number(buf, at, b", let go on by event ", p.place);
+    let at = add_with_number(buf, at, b" of t", u64::from(p.thread.0));
+    add(buf, at, b"</title></rect>\n")
+}
+
+fn add_out_if(buf: &mut [u8], at: usize, reach: &Reach, o: &Origin, p: &Origin) -> usize
+    requires place { reach.now.to < 2 ^ 42 }
+    requires room { at + 337 ≤ length buf.old }
+    ensures text { take result buf.new ≡ take at buf.old ++ out_if reach.now o.now p.now }
+    ensures near { result ≤ at + 337 }
+{
+    if let_go_x(reach, o, p) < wait_end(reach) {
+        add_out(buf, at, reach, o, p)
+    } else {
+        at
+    }
+}
+
+// Adds the parts of a wait.
+fn add_parts(buf: &mut [u8], at: usize, reach: &Reach, o: &Origin, p: Option<Origin>) -> usize
+    requires place { reach.now.to < 2 ^ 42 }
+    requires room { at + 608 ≤ length buf.old }
+    ensures text { take result buf.new ≡ take at buf.old ++ parts_text reach.now o.now p }
+    ensures near { result ≤ at + 608 }
+{
+    match p {
+        Some(p) => {
+            let at = add_in_if(buf, at, reach, o, let_go_x(reach, o, &p));
+            add_out_if(buf, at, reach, o, &p)
+        }
+        None => add_in_if(buf, at, reach, o, wait_end(reach)),
+    }
+}
+
+/// Adds a wait, which this event let go on.
+#[tactic(auto, unfolding(crate::specs::Shapes::wait_text))]
+pub fn add_wait_bar(
+    buf: &mut [u8],
+    at: usize,
+    reach: &Reach,
+    o: &Origin,
+    p: Option<Origin>,
+) -> usize
+    requires place { reach.now.to < 2 ^ 42 }
+    requires room { at + 710 ≤ length buf.old }
+    ensures text { take result buf.new ≡ take at buf.old ++ wait_text reach.now o.now p }
+    ensures near { result ≤ at + 710 }
+{
+    let at = add_parts(buf, at, reach, o, p);
     add_wait_name_if(buf, at, reach, o)
 }
 
 /// Adds the end of a row's tag, and its name.
 #[tactic(auto, unfolding(crate::specs::Shapes::row_name))]
 pub fn add_row_name(buf: &mut [u8], at: usize, band: &Band, thread: u32) -> usize
-    requires { at + 120 ≤ length buf.old }
+    requires { at + 80 ≤ length buf.old }
     ensures text { take result buf.new ≡ take at buf.old ++ row_name band.now thread }
-    ensures near { result ≤ at + 120 }
+    ensures near { result ≤ at + 80 }
 {
     let y = row_y(band, thread) + LETTER_LINE;
     let at = add_with_number(buf, at, b"'/><text class='y' x='6' y='", y);
@@ -490,9 +685,9 @@ pub fn row_height(lanes: u8) -> u64
 /// Adds the row of a thread.
 #[tactic(auto, unfolding(crate::specs::Shapes::row_text))]
 pub fn add_row(buf: &mut [u8], at: usize, band: &Band, thread: u32) -> usize
-    requires { at + 250 ≤ length buf.old }
+    requires { at + 170 ≤ length buf.old }
     ensures text { take result buf.new ≡ take at buf.old ++ row_text band.now thread }
-    ensures near { result ≤ at + 250 }
+    ensures near { result ≤ at + 170 }
 {
     let height = row_height(band.lanes);
     let at = add_with_number(

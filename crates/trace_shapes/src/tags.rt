@@ -22,9 +22,9 @@ pub fn add_with_number(buf: &mut [u8], at: usize, word: &[u8], n: u64) -> usize
 #[inline(always)]
 #[tactic(auto, unfolding(crate::specs::Shapes::place_text))]
 pub fn add_place(buf: &mut [u8], at: usize, x: u64, y: u64) -> usize
-    requires { at + 60 ≤ length buf.old }
+    requires { at + 50 ≤ length buf.old }
     ensures text { take result buf.new ≡ take at buf.old ++ place_text x y }
-    ensures near { result ≤ at + 60 }
+    ensures near { result ≤ at + 50 }
 {
     let at = add_with_number(buf, at, b"' x='", x);
     add_with_number(buf, at, b"' y='", y)
@@ -34,9 +34,9 @@ pub fn add_place(buf: &mut [u8], at: usize, x: u64, y: u64) -> usize
 #[inline(always)]
 #[tactic(auto, unfolding(crate::specs::Shapes::box_text))]
 pub fn add_box(buf: &mut [u8], at: usize, x: u64, y: u64, width: u64) -> usize
-    requires { at + 100 ≤ length buf.old }
+    requires { at + 80 ≤ length buf.old }
     ensures text { take result buf.new ≡ take at buf.old ++ box_text x y width }
-    ensures near { result ≤ at + 100 }
+    ensures near { result ≤ at + 80 }
 {
     let at = add_place(buf, at, x, y);
     add_with_number(buf, at, b"' width='", width)

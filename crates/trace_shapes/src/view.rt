@@ -4,7 +4,7 @@ ghost use Rattle.larch_actions.specs.Layout.{IsLawful};
 ghost use Rattle.trace_shapes.specs.Places.{in_view, column, is_open, bands, shown, lanes_of, band_of};
 
 use crate::geometry::{BAND, LANES};
-use larch_actions::Layout;
+use larch_actions::{Layout, ThreadSet};
 use trace_board::history::Origin;
 
 /// What of a trace is drawn: the events from `first` on and before `end`, and whether a cycle of its lock order is ringed.
@@ -15,10 +15,11 @@ pub struct DrawnRange {
     pub ordered: bool,
 }
 
-/// A band: the place of its first event, and how many lanes its rows have.
+/// A band: the place of its first event, how many rows it has, and how many lanes a row.
 #[derive(Clone, Copy)]
 pub struct Band {
     pub start: u64,
+    pub threads: u32,
     pub lanes: u8,
 }
 
@@ -39,13 +40,45 @@ pub struct Strip {
     pub given: Option<Origin>,
 }
 
-/// An arrow from an event to the event `place` of the thread `to`, in the band of the latter.
+/// An arrow from an event to the thread `to`, at the event `place` of this band.
 #[derive(Clone, Copy)]
 pub struct Link {
     pub band: Band,
     pub place: u64,
     pub to: u32,
     pub from: Origin,
+}
+
+/// What a Signal or a Broadcast does in this band: it takes the threads out of the condition, but for those left.
+#[derive(Clone, Copy)]
+pub struct Freeing {
+    pub band: Band,
+    pub by: Origin,
+    pub cond: u32,
+    pub left: ThreadSet,
+}
+
+/// The ways of arrows to an event by which a thread goes on: straight into its row, bent along it, and from the end of a thread.
+#[derive(Clone, Copy)]
+pub enum Shape {
+    Straight,
+    Bent,
+    Joined,
+}
+
+/// The way of an arrow: from a point, straight or by a level and across from there, to a height.
+#[derive(Clone, Copy)]
+pub struct Way {
+    pub x: u64,
+    pub y: u64,
+    pub turn: Option<Turn>,
+    pub end: u64,
+}
+
+#[derive(Clone, Copy)]
+pub struct Turn {
+    pub level: u64,
+    pub across: u64,
 }
 
 /// Whether the event is drawn.
@@ -95,6 +128,7 @@ pub fn band_of(layout: &Layout, view: &DrawnRange, place: u64) -> Band
 {
     Band {
         start: place - column_of(view, place),
+        threads: layout.threads,
         lanes: lanes_of(layout),
     }
 }

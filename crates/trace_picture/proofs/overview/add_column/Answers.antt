@@ -17,4 +17,4 @@ returns-clause-text c =
     let high = c.height_of_columns.ensures.height in
     let threads = c.from.ensures in
     added_four old _ _ _ _ _ _ _ [] c.add_link-at.ensures.text c.add_each_ran-at.ensures.text c.add_each_held-at.ensures.text _ c.add.ensures.text
-    ∙ (λ i. old ++ (link_text band start c.args.to ++ each_below (ran_cell k start (over_x band) (band / 100 * high i)) l.threads ++ each_below (held_cell k start (over_x band) (band / 100 * high i + 4 * threads i + 4)) l.mutexes ++ codes "</a>\n"))
+    ∙ (λ i. old ++ (link_text band start c.args.to ++ each_below (ran_cell k start (over_x band) (band / 100 * high i)) l.threads ++ each_below (held_cell k start (over_x band) (band / 100 * high i + 6 * threads i + 6)) l.mutexes ++ codes "</a>\n"))

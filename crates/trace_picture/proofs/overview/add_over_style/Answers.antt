@@ -16,7 +16,7 @@ is_no_more i k n same h = grind (arith, nat_tests)
 
 module _ (height : ℕ) where
   abbrev shown : List ℕ
-  shown = with_number (codes "px}.w{transform:translate(0,") height ++ with_number (codes "px)}.u{display:inline;transform:translate(0,calc(112px - ") height ++ codes "px))}</style>\n</svg>\n"
+  shown = with_number (codes "px}.w{transform:translate(0,") height ++ with_number (codes "px)}.u{display:inline;transform:translate(0,112px) translate(0,-") height ++ codes "px)}</style>\n</svg>\n"
 
 abbrev hidden : List ℕ
 hidden = codes "px}</style>\n</svg>\n"

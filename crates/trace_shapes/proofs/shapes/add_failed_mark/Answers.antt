@@ -1,5 +1,5 @@
 use Rattle.trace_shapes.proofs.Bars.{added_failed}
-use Rattle.trace_shapes.proofs.shapes.add_failed.Goals as goal
+use Rattle.trace_shapes.proofs.shapes.add_failed_mark.Goals as goal
 
 pub returns-clause-text : goal.returns-clause-text
 returns-clause-text c =

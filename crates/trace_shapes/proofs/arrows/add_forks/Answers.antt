@@ -1,0 +1,13 @@
+use Rattle.std.proofs.Common.{◌++◌, take, ◌∙◌}
+use Rattle.std.specs.Prelude.{codes}
+use Rattle.trace_shapes.specs.Shapes.{with_number}
+use Rattle.trace_shapes.specs.Arrows.{forks}
+use Rattle.trace_shapes.proofs.Added.{added_two}
+use Rattle.trace_shapes.proofs.arrows.add_forks.Goals as goal
+
+pub returns-clause-text : goal.returns-clause-text
+unfolding forks
+returns-clause-text c =
+    let old = take c.args.at c.args.buf.now in
+    let number = c.from.ensures in
+    added_two old _ _ _ _ c.add_with_number-at.ensures.text c.add.ensures.text ∙ (λ i. old ++ (with_number (codes " forks t") (number i) ++ codes "</title></path>\n"))
