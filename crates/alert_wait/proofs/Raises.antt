@@ -11,24 +11,24 @@ use Rattle.nub.proofs.Without.{without_twice}
 module _ {T H W : Type 0} where
   -- the thread o is l after tries that failed
   abbrev pub Tries : Known T H W → Known T H W → Type 0
-  Tries o l = l ≡ record o { count = l.count; failed = l.failed; turns = l.turns; alerted = l.alerted; next = l.next }
+  Tries o l = l ≡ record o { part = record o.part { count = l.count; failed = l.failed; turns = l.turns; alerted = l.alerted }; next = l.next }
 
   -- one more try of n has failed, as t
   abbrev pub Lost : ℕ → Known T H W → Known T H W → Type 0
-  Lost n l t = t ≡ record l { failed = n ∷ l.failed; turns = without n l.turns; next = t.next }
+  Lost n l t = t ≡ record l { part = record l.part { failed = n ∷ l.failed; turns = without n l.turns }; next = t.next }
 
   -- and the thread has stood in line for n, as s
   abbrev pub Stood : ℕ → Known T H W → Known T H W → Type 0
-  Stood n t s = s ≡ record t { count = s.count; stand = s.stand; failed = without n t.failed; turns = s.turns; alerted = s.alerted }
+  Stood n t s = s ≡ record t { part = record t.part { count = s.count; stand = s.stand; failed = without n t.failed; turns = s.turns; alerted = s.alerted } }
 
   -- a try of n has taken the bit, as t
   pub won : (n : ℕ) (o l t : Known T H W) → Tries o l → without n l.turns ≡ [] → o.wait ≡ None → o.turns ≡ []
-      → t ≡ record (recorded l t) { held = t.held; wait = None; failed = without n l.failed; turns = without n l.turns; values = t.values }
-      → (t.held ≡ l.held) × (t.values ≡ l.values) → t ≡ record (recorded o t) { count = t.count; failed = t.failed; alerted = t.alerted }
+      → t ≡ record (recorded l t (λ q. record q { held = t.held; wait = None; failed = without n l.failed; turns = without n l.turns })) { values = t.values }
+      → (t.held ≡ l.held) × (t.values ≡ l.values) → t ≡ recorded o t (λ q. record q { count = t.count; failed = t.failed; alerted = t.alerted })
   won n o l t same turns no_wait no_turns is taken =
       let F : Known T H W → List (Opt T) → List (Opt (Opt T)) → Opt Wait → List ℕ → Known T H W =
-      λ k h v w u. record (recorded k t) { held = h; values = v; wait = w; turns = u; failed = t.failed; count = t.count; alerted = t.alerted } in
-      let G : Known T H W → Known T H W = λ k. record k { failed = t.failed; count = t.count; alerted = t.alerted } in
+      λ k h v w u. record (recorded k t (λ q. record q { held = h; wait = w; turns = u; failed = t.failed; count = t.count; alerted = t.alerted })) { values = v } in
+      let G : Known T H W → Known T H W = λ k. record k { part = record k.part { failed = t.failed; count = t.count; alerted = t.alerted } } in
       ap G is
       ∙ ap (F l t.held t.values None) turns
       ∙ ap (λ k. F k t.held t.values None []) same
@@ -41,8 +41,8 @@ module _ {T H W : Type 0} where
     -- the thread goes on
     pub still_tries : o.stand ≡ None → s.stand ≡ None → Tries o s
     still_tries no_stand out =
-        let F : Known T H W → Opt Stand → Known T H W = λ k q. record k { stand = q; count = s.count; failed = s.failed; turns = s.turns; alerted = s.alerted; next = s.next } in
-        let G : Known T H W → Known T H W = λ k. record k { failed = s.failed; next = s.next } in
+        let F : Known T H W → Opt Stand → Known T H W = λ k q. record k { part = record k.part { stand = q; count = s.count; failed = s.failed; turns = s.turns; alerted = s.alerted }; next = s.next } in
+        let G : Known T H W → Known T H W = λ k. record k { part = record k.part { failed = s.failed }; next = s.next } in
         ap G stood
         ∙ ap (λ k. F k s.stand) lost
         ∙ ap (λ k. F k s.stand) same
@@ -53,10 +53,10 @@ module _ {T H W : Type 0} where
 
     -- it was alerted in the line, and ends the call as e
     module _ (e : Known T H W) (no_stand : o.stand ≡ None) (no_turns : o.turns ≡ []) (stays : s.turns ≡ t.turns)
-        (ended : e ≡ record (recorded s e) { count = e.count; stand = None; failed = e.failed; alerted = e.alerted }) where
-      pub raised : e ≡ record (recorded o e) { count = e.count; failed = e.failed; alerted = e.alerted }
+        (ended : e ≡ recorded s e (λ q. record q { count = e.count; stand = None; failed = e.failed; alerted = e.alerted })) where
+      pub raised : e ≡ recorded o e (λ q. record q { count = e.count; failed = e.failed; alerted = e.alerted })
       raised =
-          let F : Known T H W → Opt Stand → List ℕ → Known T H W = λ k q u. record (recorded k e) { count = e.count; stand = q; failed = e.failed; alerted = e.alerted; turns = u } in
+          let F : Known T H W → Opt Stand → List ℕ → Known T H W = λ k q u. recorded k e (λ p. record p { count = e.count; stand = q; failed = e.failed; alerted = e.alerted; turns = u }) in
           ended
           ∙ ap (λ k. F k None s.turns) stood
           ∙ ap (λ k. F k None s.turns) lost
@@ -75,21 +75,21 @@ module _ {T H W : Type 0} where
         let pen = ap (λ k. k.pen) stood ∙ (ap (λ k. k.pen) lost ∙ ap (λ k. k.pen) same) in
         makes_by by o s e number version seen mine places pen made
 
-  pub with_alerted : (a b : Known T H W) → a ≡ b → a ≡ record b { alerted = a.alerted }
-  with_alerted a b is = let F : Known T H W → Known T H W = λ k. record k { alerted = a.alerted } in ap F is
+  pub with_alerted : (a b : Known T H W) → a ≡ b → a ≡ record b { part = record b.part { alerted = a.alerted } }
+  with_alerted a b is = let F : Known T H W → Known T H W = λ k. record k { part = record k.part { alerted = a.alerted } } in ap F is
 
   -- the thread o, whose last try has failed as a, raises as z
-  pub raised_last : (o a z : Known T H W) → a ≡ record o { count = a.count; stand = None; failed = a.failed; next = a.next } → z ≡ record (recorded a z) { alerted = false }
-      → z ≡ record (recorded o z) { count = z.count; stand = None; failed = z.failed; alerted = z.alerted }
+  pub raised_last : (o a z : Known T H W) → a ≡ record o { part = record o.part { count = a.count; stand = None; failed = a.failed }; next = a.next } → z ≡ recorded a z (λ q. record q { alerted = false })
+      → z ≡ recorded o z (λ q. record q { count = z.count; stand = None; failed = z.failed; alerted = z.alerted })
   raised_last o a z is raised =
-      let F : Known T H W → Known T H W = λ k. record (recorded k z) { count = z.count; failed = z.failed; alerted = z.alerted } in
-      let G : Known T H W → Known T H W = λ k. record k { count = z.count; failed = z.failed; alerted = z.alerted } in
+      let F : Known T H W → Known T H W = λ k. recorded k z (λ q. record q { count = z.count; failed = z.failed; alerted = z.alerted }) in
+      let G : Known T H W → Known T H W = λ k. record k { part = record k.part { count = z.count; failed = z.failed; alerted = z.alerted } } in
       ap G raised ∙ ap F is
 
   -- the thread o has lowered the begun waits as l, and has the mutex again as z
-  pub ended_returned : (o l z : Known T H W) → l ≡ record o { raised = None } → z ≡ record (recorded l z) { held = z.held; count = z.count; wait = None; failed = z.failed; turns = z.turns; values = z.values }
-      → z ≡ record (recorded o z) { held = z.held; count = z.count; wait = None; failed = z.failed; turns = z.turns; alerted = z.alerted; raised = None; values = z.values }
+  pub ended_returned : (o l z : Known T H W) → l ≡ record o { part = record o.part { raised = None } } → z ≡ record (recorded l z (λ q. record q { held = z.held; count = z.count; wait = None; failed = z.failed; turns = z.turns })) { values = z.values }
+      → z ≡ record (recorded o z (λ q. record q { held = z.held; count = z.count; wait = None; failed = z.failed; turns = z.turns; alerted = z.alerted; raised = None })) { values = z.values }
   ended_returned o l z lowered ended =
-      let G : Known T H W → Known T H W = λ k. record k { alerted = z.alerted } in
-      let F : Known T H W → Known T H W = λ k. record (recorded k z) { held = z.held; count = z.count; wait = None; failed = z.failed; turns = z.turns; alerted = z.alerted; values = z.values } in
+      let G : Known T H W → Known T H W = λ k. record k { part = record k.part { alerted = z.alerted } } in
+      let F : Known T H W → Known T H W = λ k. record (recorded k z (λ q. record q { held = z.held; count = z.count; wait = None; failed = z.failed; turns = z.turns; alerted = z.alerted })) { values = z.values } in
       ap G ended ∙ ap F lowered

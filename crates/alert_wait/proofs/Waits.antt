@@ -20,30 +20,12 @@ module _ {T H W : Type 0} where
     pub raised : Opt ℕ
     pub failed : List ℕ
     pub put : a ≡ record o { values = slice_set o.values m (Some (Some y)) }
-    pub begun : b ≡ record (recorded a b) { wait = wait; raised = raised }
-    pub freed : f ≡ record b {
-      held = f.held;
-      share = f.share;
-      count = f.count;
-      wait = opened b.wait;
-      failed = f.failed;
-      cleared = without m b.cleared;
-      looked = without m b.looked;
-      values = f.values;
-    }
+    pub begun : b ≡ recorded a b (λ q. record q { wait = wait; raised = raised })
+    pub freed : f ≡ record b { part = record b.part { held = f.held; share = f.share; count = f.count; wait = opened b.wait; failed = f.failed; cleared = without m b.cleared; looked = without m b.looked }; values = f.values }
     pub freed_held : f.held ≡ slice_set b.held m None
     pub freed_values : f.values ≡ slice_set b.values m None
-    pub blocked : k ≡ record f { count = k.count; failed = failed; wait = k.wait; alerted = k.alerted }
-    pub ended : e ≡ record (recorded k e) {
-      held = e.held;
-      count = e.count;
-      wait = None;
-      failed = e.failed;
-      turns = e.turns;
-      alerted = e.alerted;
-      raised = None;
-      values = e.values;
-    }
+    pub blocked : k ≡ record f { part = record f.part { count = k.count; failed = failed; wait = k.wait; alerted = k.alerted } }
+    pub ended : e ≡ record (recorded k e (λ q. record q { held = e.held; count = e.count; wait = None; failed = e.failed; turns = e.turns; alerted = e.alerted; raised = None })) { values = e.values }
     pub turns : e.turns ≡ without m k.turns
     pub held : e.held ≡ slice_set k.held m (Some x)
     pub values : e.values ≡ slice_set k.values m (Some (Some x))

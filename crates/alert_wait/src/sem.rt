@@ -54,11 +54,8 @@ fn take_or_raise<U: Uses, R: Wait>(rt: &R, p: &Package<U>, me: &mut Thread<U>, s
     requires looked { me.old.cleared ≡ [] }
     requires stored { HasStored p.now.traced me.old }
     ensures event { Makes (p_end result me.old.number s.0) me.old me.new }
-    ensures rest { me.new ≡ record (recorded me.old me.new) {
-      count = me.new.count;
-      failed = me.new.failed;
-      alerted = me.new.alerted;
-    } }
+    ensures rest { me.new ≡ recorded me.old me.new (λ q. record q
+        { count = me.new.count; failed = me.new.failed; alerted = me.new.alerted }) }
     ensures stored { HasStored p.now.traced me.new }
 {
     let at = Object::Sem(s);
@@ -91,12 +88,8 @@ fn end_alerted<U: Uses, R: Wait>(rt: &R, p: &Package<U>, me: &mut Thread<U>, s: 
     requires alerted { StandsAs (λ x. (x.at ≡ sem_object s.0) × IsAlerted x.stage) me.old × (me.old.alerted ≡ true) }
     requires stored { HasStored p.now.traced me.old }
     ensures event { Makes (p_end result me.old.number s.0) me.old me.new }
-    ensures rest { me.new ≡ record (recorded me.old me.new) {
-      count = me.new.count;
-      stand = None;
-      failed = me.new.failed;
-      alerted = me.new.alerted;
-    } }
+    ensures rest { me.new ≡ recorded me.old me.new (λ q. record q
+        { count = me.new.count; stand = None; failed = me.new.failed; alerted = me.new.alerted }) }
     ensures stored { HasStored p.now.traced me.new }
 {
     if take_at_last(rt, p, me, s) {
@@ -119,17 +112,13 @@ fn take_at_last<U: Uses, R: Wait>(rt: &R, p: &Package<U>, me: &mut Thread<U>, s:
     requires alerted { StandsAs (λ x. (x.at ≡ sem_object s.0) × IsAlerted x.stage) me.old × (me.old.alerted ≡ true) }
     requires stored { HasStored p.now.traced me.old }
     ensures lost { result ≡ false → me.new ≡ record me.old {
-      count = me.new.count;
-      stand = None;
-      failed = me.new.failed;
+      part = record me.old.part
+          { count = me.new.count; stand = None; failed = me.new.failed };
       next = me.new.next;
     } }
     ensures event { result ≡ true → Makes (p_end Returned me.old.number s.0) me.old me.new }
-    ensures won { result ≡ true → me.new ≡ record (recorded me.old me.new) {
-      count = me.new.count;
-      stand = None;
-      failed = me.new.failed;
-    } }
+    ensures won { result ≡ true → me.new ≡ recorded me.old me.new (λ q. record q
+        { count = me.new.count; stand = None; failed = me.new.failed }) }
     ensures stored { HasStored p.now.traced me.new }
 {
     let at = Object::Sem(s);
@@ -156,7 +145,7 @@ fn raise<U: Uses, R: Wait>(rt: &R, p: &Package<U>, me: &mut Thread<U>, s: SemId)
     requires alerted { me.old.alerted ≡ true }
     requires stored { HasStored p.now.traced me.old }
     ensures event { Makes (alert_p_raise_event me.old.number s.0) me.old me.new }
-    ensures rest { me.new ≡ record (recorded me.old me.new) { alerted = false } }
+    ensures rest { me.new ≡ recorded me.old me.new (λ q. record q { alerted = false }) }
     ensures stored { HasStored p.now.traced me.new }
 {
     let e = Event {

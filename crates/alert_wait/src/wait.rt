@@ -92,7 +92,7 @@ fn end_wait<U: Uses, R: Wait>(
     requires alerted { returns ≡ false → me.old.alerted ≡ true }
     requires stored { HasStored p.now.traced me.old }
     ensures event { Makes (wait_end result me.old.number m.0 c.0) me.old me.new }
-    ensures rest { me.new ≡ record (recorded me.old me.new) {
+    ensures rest { me.new ≡ record (recorded me.old me.new (λ q. record q {
       held = me.new.held;
       count = me.new.count;
       wait = None;
@@ -100,8 +100,7 @@ fn end_wait<U: Uses, R: Wait>(
       turns = me.new.turns;
       alerted = me.new.alerted;
       raised = None;
-      values = me.new.values;
-    } }
+    })) { values = me.new.values } }
     ensures turns { me.new.turns ≡ without m.0 me.old.turns }
     ensures taken { IsTaken U.fits (Mutex m) me.old me.new }
     ensures stored { HasStored p.now.traced me.new }
@@ -141,7 +140,7 @@ fn raise<U: Uses, R: Wait>(rt: &R, p: &Package<U>, me: &mut Thread<U>, m: MutexI
     requires alerted { me.old.alerted ≡ true }
     requires stored { HasStored p.now.traced me.old }
     ensures event { Makes (alert_raise_event me.old.number m.0 c.0) me.old me.new }
-    ensures rest { me.new ≡ record (recorded me.old me.new) { wait = None; alerted = false } }
+    ensures rest { me.new ≡ recorded me.old me.new (λ q. record q { wait = None; alerted = false }) }
     ensures stored { HasStored p.now.traced me.new }
 {
     let e = Event {

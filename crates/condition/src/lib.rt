@@ -144,10 +144,8 @@ fn block_and_lower<U: Uses, R: Wait>(
     requires waits { (x : Waiting) × (me.old.wait ≡ Some x) × (x.cond.0 ≡ c.0) × (x.member ≡ Some count) × (x.alertable ≡ false) }
     requires raised { me.old.raised ≡ Some c.0 }
     ensures { me.new ≡ record me.old {
-      count = me.new.count;
-      failed = without (cond_object c.0) me.old.failed;
-      wait = unread me.old.wait;
-      raised = None;
+      part = record me.old.part
+          { count = me.new.count; failed = without (cond_object c.0) me.old.failed; wait = unread me.old.wait; raised = None };
     } }
 {
     block(rt, p, me, c, count, false);

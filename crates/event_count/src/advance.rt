@@ -26,11 +26,13 @@ fn enter_below<U: Uses, R: Wait>(rt: &R, p: &Package<U>, me: &mut Thread<U>, c: 
     requires outside { IsOutside me.old }
     requires calling { me.old.calling ≡ Some c.0 }
     ensures inside { me.new ≡ record me.old {
-      spin = Some (cond_object c.0);
-      queue = me.new.queue;
-      left = me.new.queue;
-      count = me.new.count;
-      failed = without (cond_object c.0) me.old.failed;
+      part = record me.old.part {
+        spin = Some (cond_object c.0);
+        queue = me.new.queue;
+        left = me.new.queue;
+        count = me.new.count;
+        failed = without (cond_object c.0) me.old.failed;
+      };
     } }
     ensures below { me.new.count < 18446744073709551615 }
     ensures small { Small most_threads me.new.queue }
@@ -54,11 +56,8 @@ fn advance_one<U: Uses, R: Wait>(rt: &R, p: &Package<U>, me: &mut Thread<U>, c: 
     requires calling { me.old.calling ≡ Some c.0 }
     requires stored { HasStored p.now.traced me.old }
     ensures event { (left : List ℕ) × Makes (event me.old.number (signal_action c.0 left)) me.old me.new }
-    ensures rest { me.new ≡ record (recorded me.old me.new) {
-      count = me.new.count;
-      failed = without (cond_object c.0) me.old.failed;
-      calling = None;
-    } }
+    ensures rest { me.new ≡ recorded me.old me.new (λ q. record q
+        { count = me.new.count; failed = without (cond_object c.0) me.old.failed; calling = None }) }
     ensures stored { HasStored p.now.traced me.new }
 {
     let at = Object::Cond(c);
@@ -89,11 +88,8 @@ fn advance_all<U: Uses, R: Wait>(rt: &R, p: &Package<U>, me: &mut Thread<U>, c: 
     requires calling { me.old.calling ≡ Some c.0 }
     requires stored { HasStored p.now.traced me.old }
     ensures event { Makes (event me.old.number (broadcast_action c.0 [])) me.old me.new }
-    ensures rest { me.new ≡ record (recorded me.old me.new) {
-      count = me.new.count;
-      failed = without (cond_object c.0) me.old.failed;
-      calling = None;
-    } }
+    ensures rest { me.new ≡ recorded me.old me.new (λ q. record q
+        { count = me.new.count; failed = without (cond_object c.0) me.old.failed; calling = None }) }
     ensures stored { HasStored p.now.traced me.new }
 {
     enter_below(rt, p, me, c);
@@ -117,7 +113,7 @@ fn wake_all<U: Uses>(p: &Package<U>, me: &mut Thread<U>, c: CondId)
     requires taken { me.old.left ≡ [] }
     requires owes_none { me.old.owed ≡ [] }
     requires small { Small most_threads me.old.queue }
-    ensures { me.new ≡ record me.old { queue = [] } }
+    ensures { me.new ≡ record me.old { part = record me.old.part { queue = [] } } }
 {
     while let Some(t) = pop(p, me, Object::Cond(c)) {
         wake_from_condition(p, me, t);
@@ -133,8 +129,8 @@ fn looks<U: Uses>(p: &Package<U>, me: &mut Thread<U>, c: CondId, all: bool) -> b
     requires no_wait { me.old.wait ≡ None }
     requires pen { MayTell p.now.traced me.old.life me.old.pen }
     ensures event { result ≡ false → Makes (event me.old.number (quiet_action all c.0)) me.old me.new }
-    ensures quiet { result ≡ false → me.new ≡ record (learnt me.old me.new) { pen = made me.old.pen } }
-    ensures calls { result ≡ true → me.new ≡ record me.old { calling = Some c.0 } }
+    ensures quiet { result ≡ false → me.new ≡ record me.old { part = record (learnt me.old.part me.new.part) { pen = made me.old.pen } } }
+    ensures calls { result ≡ true → me.new ≡ record me.old { part = record me.old.part { calling = Some c.0 } } }
 {
     // A thread that begins to wait raises the number of waiters before it reads the count, and
     // lowers it only out of the condition. So a 0 says that no thread is in the condition. The
@@ -182,8 +178,8 @@ fn looks_traced<U: Uses, R: Wait>(
     requires no_wait { me.old.wait ≡ None }
     requires stored { HasStored p.now.traced me.old }
     ensures event { result ≡ false → Makes (event me.old.number (quiet_action all c.0)) me.old me.new }
-    ensures quiet { result ≡ false → me.new ≡ recorded me.old me.new }
-    ensures calls { result ≡ true → me.new ≡ record me.old { calling = Some c.0; next = me.new.next } }
+    ensures quiet { result ≡ false → me.new ≡ recorded me.old me.new (λ q. q) }
+    ensures calls { result ≡ true → me.new ≡ record me.old { part = record me.old.part { calling = Some c.0 }; next = me.new.next } }
     ensures stored { HasStored p.now.traced me.new }
 {
     // The pen is taken before the look is known to be the event: the event's number must be read by
@@ -209,11 +205,8 @@ fn advance_count<U: Uses, R: Wait>(rt: &R, p: &Package<U>, me: &mut Thread<U>, c
     requires stored { HasStored p.now.traced me.old }
     ensures all { all ≡ true → Makes (event me.old.number (broadcast_action c.0 [])) me.old me.new }
     ensures one { all ≡ false → (left : List ℕ) × Makes (event me.old.number (signal_action c.0 left)) me.old me.new }
-    ensures rest { me.new ≡ record (recorded me.old me.new) {
-      count = me.new.count;
-      failed = without (cond_object c.0) me.old.failed;
-      calling = None;
-    } }
+    ensures rest { me.new ≡ recorded me.old me.new (λ q. record q
+        { count = me.new.count; failed = without (cond_object c.0) me.old.failed; calling = None }) }
     ensures stored { HasStored p.now.traced me.new }
 {
     if all {
@@ -234,9 +227,9 @@ pub fn advance_quietly<U: Uses>(p: &Package<U>, me: &mut Thread<U>, c: CondId, a
     requires no_wait { me.old.wait ≡ None }
     requires stored { HasStored p.now.traced me.old }
     ensures event { result ≡ true → Makes (event me.old.number (quiet_action all c.0)) me.old me.new }
-    ensures quiet { result ≡ true → me.new ≡ recorded me.old me.new }
+    ensures quiet { result ≡ true → me.new ≡ recorded me.old me.new (λ q. q) }
     ensures stored { HasStored p.now.traced me.new }
-    ensures found { result ≡ false → p.now.traced ≡ false → me.new ≡ record me.old { calling = Some c.0 } }
+    ensures found { result ≡ false → p.now.traced ≡ false → me.new ≡ record me.old { part = record me.old.part { calling = Some c.0 } } }
     ensures traced { result ≡ false → p.now.traced ≡ true → me.new ≡ me.old }
 {
     !p.traced() && !looks(p, me, c, all)
@@ -262,11 +255,7 @@ pub fn advance_slowly<U: Uses, R: Wait>(
     requires stored { HasStored p.now.traced me.old }
     ensures all { all ≡ true → Makes (event me.old.number (broadcast_action c.0 [])) me.old me.new }
     ensures one { all ≡ false → (left : List ℕ) × Makes (event me.old.number (signal_action c.0 left)) me.old me.new }
-    ensures rest { me.new ≡ record (recorded me.old me.new) {
-      count = me.new.count;
-      failed = me.new.failed;
-      calling = None;
-    } }
+    ensures rest { me.new ≡ recorded me.old me.new (λ q. record q { count = me.new.count; failed = me.new.failed; calling = None }) }
     ensures stored { HasStored p.now.traced me.new }
 {
     if p.traced() && !looks_traced(rt, p, me, c, all) {

@@ -35,10 +35,8 @@ pub fn read_count<U: Uses, R: Wait>(
     requires lowered { me.old.raised ≡ None }
     requires stored { HasStored p.now.traced me.old }
     ensures event { Makes (enqueue_event alertable me.old.number m.0 c.0) me.old me.new }
-    ensures begun { me.new ≡ record (recorded me.old me.new) {
-      wait = Some (begun_wait alertable m.0 c.0 result);
-      raised = Some c.0;
-    } }
+    ensures begun { me.new ≡ recorded me.old me.new (λ q. record q
+        { wait = Some (begun_wait alertable m.0 c.0 result); raised = Some c.0 }) }
     ensures stored { HasStored p.now.traced me.new }
 {
     // Before the count is read, by which the thread enters the condition: a Signal or Broadcast
@@ -66,7 +64,7 @@ fn read_raised<U: Uses, R: Wait>(
     requires raised { me.old.raised ≡ Some c.0 }
     requires stored { HasStored p.now.traced me.old }
     ensures event { Makes (enqueue_event alertable me.old.number m.0 c.0) me.old me.new }
-    ensures begun { me.new ≡ record (recorded me.old me.new) { wait = Some (begun_wait alertable m.0 c.0 result) } }
+    ensures begun { me.new ≡ recorded me.old me.new (λ q. record q { wait = Some (begun_wait alertable m.0 c.0 result) }) }
     ensures stored { HasStored p.now.traced me.new }
 {
     // Written for the thread that wakes this one, before any thread can.
@@ -97,7 +95,7 @@ fn read_traced<U: Uses, R: Wait>(
     requires raised { me.old.raised ≡ Some c.0 }
     requires stored { HasStored p.now.traced me.old }
     ensures event { Makes (enqueue_event alertable me.old.number m.0 c.0) me.old me.new }
-    ensures begun { me.new ≡ record (recorded me.old me.new) { wait = Some (begun_wait alertable m.0 c.0 result) } }
+    ensures begun { me.new ≡ recorded me.old me.new (λ q. record q { wait = Some (begun_wait alertable m.0 c.0 result) }) }
     ensures stored { HasStored p.now.traced me.new }
 {
     let e = beginning(me.number(), m, c, alertable);
@@ -142,7 +140,10 @@ fn begin_wait<U: Uses>(
     requires raised { me.old.raised ≡ Some c.0 }
     requires pen { MayTell p.now.traced me.old.life me.old.pen }
     ensures event { Makes (enqueue_event alertable me.old.number m.0 c.0) me.old me.new }
-    ensures begun { me.new ≡ record (learnt me.old me.new) { wait = Some (begun_wait alertable m.0 c.0 result); pen = made me.old.pen } }
+    ensures begun { me.new ≡ record me.old {
+      part = record (learnt me.old.part me.new.part)
+          { wait = Some (begun_wait alertable m.0 c.0 result); pen = made me.old.pen };
+    } }
 {
     if alertable {
         load_count_alertable(p, me, m, c)
@@ -175,10 +176,8 @@ pub fn block<U: Uses, R: Wait>(
     requires waits { (x : Waiting) × (me.old.wait ≡ Some x) × (x.cond.0 ≡ c.0) × (x.member ≡ Some count) × (x.alertable ≡ alertable) }
     ensures plain { alertable ≡ false → result ≡ true }
     ensures rest { me.new ≡ record me.old {
-      count = me.new.count;
-      failed = without (cond_object c.0) me.old.failed;
-      wait = me.new.wait;
-      alerted = me.new.alerted;
+      part = record me.old.part
+          { count = me.new.count; failed = without (cond_object c.0) me.old.failed; wait = me.new.wait; alerted = me.new.alerted };
     } }
     ensures out { result ≡ true → me.new.wait ≡ unread me.old.wait }
     ensures left { result ≡ false → me.new.wait ≡ recounted me.new.count me.old.wait }

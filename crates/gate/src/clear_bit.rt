@@ -42,23 +42,24 @@ pub fn free<U: Uses, C: Change<U>, R: Wait>(
     requires stored { HasStored p.now.traced me.old }
     ensures event { IfSome e (λ x. Makes x me.old me.new) }
     ensures rest { MatchOption e (me.new ≡ record me.old {
+      part = record me.old.part {
+        held = me.new.held;
+        share = me.new.share;
+        count = me.new.count;
+        wait = opened me.old.wait;
+        failed = me.new.failed;
+        cleared = without (object_of at) me.old.cleared;
+        looked = without (object_of at) me.old.looked;
+      };
+      values = me.new.values;
+    }) (λ x. me.new ≡ record (recorded me.old me.new (λ q. record q {
       held = me.new.held;
       share = me.new.share;
       count = me.new.count;
-      wait = opened me.old.wait;
       failed = me.new.failed;
       cleared = without (object_of at) me.old.cleared;
       looked = without (object_of at) me.old.looked;
-      values = me.new.values;
-    }) (λ x. me.new ≡ record (recorded me.old me.new) {
-      held = me.new.held;
-      share = me.new.share;
-      count = me.new.count;
-      failed = me.new.failed;
-      cleared = without (object_of at) me.old.cleared;
-      looked = without (object_of at) me.old.looked;
-      values = me.new.values;
-    }) }
+    })) { values = me.new.values }) }
     ensures freed { IsFreed C.after at me.old me.new }
     ensures stored { HasStored p.now.traced me.new }
 {
@@ -110,13 +111,15 @@ fn free_in_wait<U: Uses, C: Change<U>, R: Wait>(
     requires waits { (x : Waiting) × (me.old.wait ≡ Some x) × (x.mutex.0 ≡ m.0) × (x.bit ≡ Closing) }
     requires may { MayGive U.allows C.after m.0 me.old }
     ensures rest { me.new ≡ record me.old {
-      held = slice_set me.old.held m.0 None;
-      share = me.new.share;
-      count = me.new.count;
-      wait = opened me.old.wait;
-      failed = me.new.failed;
-      cleared = without m.0 me.old.cleared;
-      looked = without m.0 me.old.looked;
+      part = record me.old.part {
+        held = slice_set me.old.held m.0 None;
+        share = me.new.share;
+        count = me.new.count;
+        wait = opened me.old.wait;
+        failed = me.new.failed;
+        cleared = without m.0 me.old.cleared;
+        looked = without m.0 me.old.looked;
+      };
       values = slice_set me.old.values m.0 None;
     } }
     ensures share { PicksShare C.after m.0 me.old me.new }
@@ -146,12 +149,8 @@ fn clear_traced<U: Uses, C: Change<U>, R: Wait>(
     requires may { MayFree U.allows C.after at me.old }
     requires stored { HasStored p.now.traced me.old }
     ensures event { Makes (clears at me.old.number) me.old me.new }
-    ensures rest { me.new ≡ record (recorded me.old me.new) {
-      held = me.new.held;
-      share = me.new.share;
-      cleared = object_of at ∷ me.old.cleared;
-      values = me.new.values;
-    } }
+    ensures rest { me.new ≡ record (recorded me.old me.new (λ q. record q
+        { held = me.new.held; share = me.new.share; cleared = object_of at ∷ me.old.cleared })) { values = me.new.values } }
     ensures freed { IsFreed C.after at me.old me.new }
     ensures stored { HasStored p.now.traced me.new }
 {
@@ -189,11 +188,13 @@ fn clear_gate<U: Uses, C: Change<U>>(p: &Package<U>, me: &mut Thread<U>, at: Obj
     requires may { MayFree U.allows C.after at me.old }
     requires pen { MayTell p.now.traced me.old.life me.old.pen }
     ensures event { Makes (clears at me.old.number) me.old me.new }
-    ensures rest { me.new ≡ record (learnt me.old me.new) {
-      held = me.new.held;
-      share = me.new.share;
-      cleared = object_of at ∷ me.old.cleared;
-      pen = made me.old.pen;
+    ensures rest { me.new ≡ record me.old {
+      part = record (learnt me.old.part me.new.part) {
+        held = me.new.held;
+        share = me.new.share;
+        cleared = object_of at ∷ me.old.cleared;
+        pen = made me.old.pen;
+      };
       values = me.new.values;
     } }
     ensures freed { IsFreed C.after at me.old me.new }
@@ -220,10 +221,12 @@ fn wake_after<U: Uses, R: Wait>(rt: &R, p: &Package<U>, me: &mut Thread<U>, at: 
     requires outside { IsOutside me.old }
     requires looked { length ≢ 0 → mem (object_of at) me.old.looked ≡ true }
     ensures queued { length ≢ 0 → me.new ≡ record me.old {
-      count = me.new.count;
-      failed = without (object_of at) me.old.failed;
-      cleared = without (object_of at) me.old.cleared;
-      looked = without (object_of at) me.old.looked;
+      part = record me.old.part {
+        count = me.new.count;
+        failed = without (object_of at) me.old.failed;
+        cleared = without (object_of at) me.old.cleared;
+        looked = without (object_of at) me.old.looked;
+      };
     } }
     ensures none { length ≡ 0 → me.new ≡ me.old }
 {
@@ -241,10 +244,12 @@ fn wake_one<U: Uses, R: Wait>(rt: &R, p: &Package<U>, me: &mut Thread<U>, at: Ob
     requires outside { IsOutside me.old }
     requires looked { mem (object_of at) me.old.looked ≡ true }
     ensures { me.new ≡ record me.old {
-      count = me.new.count;
-      failed = without (object_of at) me.old.failed;
-      cleared = without (object_of at) me.old.cleared;
-      looked = without (object_of at) me.old.looked;
+      part = record me.old.part {
+        count = me.new.count;
+        failed = without (object_of at) me.old.failed;
+        cleared = without (object_of at) me.old.cleared;
+        looked = without (object_of at) me.old.looked;
+      };
     } }
 {
     enter(rt, p, me, at, Why::QueueSeen);

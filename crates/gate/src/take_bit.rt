@@ -36,14 +36,13 @@ pub fn take<U: Uses, R: Wait>(rt: &R, p: &Package<U>, me: &mut Thread<U>, at: Ob
     requires may { MayMake at me.old.number me.old.wait e }
     requires stored { HasStored p.now.traced me.old }
     ensures event { Makes e me.old me.new }
-    ensures rest { me.new ≡ record (recorded me.old me.new) {
+    ensures rest { me.new ≡ record (recorded me.old me.new (λ q. record q {
       held = me.new.held;
       count = me.new.count;
       wait = None;
       failed = me.new.failed;
       turns = me.new.turns;
-      values = me.new.values;
-    } }
+    })) { values = me.new.values } }
     ensures turns { me.new.turns ≡ without (object_of at) me.old.turns }
     ensures taken { IsTaken U.fits at me.old me.new }
     ensures stored { HasStored p.now.traced me.new }
@@ -64,14 +63,16 @@ fn try_untraced<U: Uses>(p: &Package<U>, me: &mut Thread<U>, at: Object, e: Even
     requires outside { IsOutside me.old }
     requires may { MayMake at me.old.number me.old.wait e }
     ensures untraced { result ≡ true → p.now.traced ≡ false }
-    ensures lost { result ≡ false → me.new ≡ record me.old { failed = me.new.failed; turns = me.new.turns } }
+    ensures lost { result ≡ false → me.new ≡ record me.old { part = record me.old.part { failed = me.new.failed; turns = me.new.turns } } }
     ensures turns { result ≡ false → without (object_of at) me.new.turns ≡ without (object_of at) me.old.turns }
     ensures event { result ≡ true → Makes e me.old me.new }
-    ensures won { result ≡ true → me.new ≡ record (learnt me.old me.new) {
-      held = me.new.held;
-      wait = None;
-      failed = without (object_of at) me.old.failed;
-      turns = without (object_of at) me.old.turns;
+    ensures won { result ≡ true → me.new ≡ record me.old {
+      part = record (learnt me.old.part me.new.part) {
+        held = me.new.held;
+        wait = None;
+        failed = without (object_of at) me.old.failed;
+        turns = without (object_of at) me.old.turns;
+      };
       values = me.new.values;
     } }
     ensures taken { result ≡ true → IsTaken U.fits at me.old me.new }
@@ -99,18 +100,17 @@ pub fn try_take<U: Uses, R: Wait>(
     requires may { MayMake at me.old.number me.old.wait e }
     requires stored { HasStored p.now.traced me.old }
     ensures lost { result ≡ false → me.new ≡ record me.old {
-      failed = object_of at ∷ me.old.failed;
-      turns = without (object_of at) me.old.turns;
+      part = record me.old.part
+          { failed = object_of at ∷ me.old.failed; turns = without (object_of at) me.old.turns };
       next = me.new.next;
     } }
     ensures event { result ≡ true → Makes e me.old me.new }
-    ensures won { result ≡ true → me.new ≡ record (recorded me.old me.new) {
+    ensures won { result ≡ true → me.new ≡ record (recorded me.old me.new (λ q. record q {
       held = me.new.held;
       wait = None;
       failed = without (object_of at) me.old.failed;
       turns = without (object_of at) me.old.turns;
-      values = me.new.values;
-    } }
+    })) { values = me.new.values } }
     ensures taken { result ≡ true → IsTaken U.fits at me.old me.new }
     ensures stored { HasStored p.now.traced me.new }
 {
@@ -159,16 +159,18 @@ fn try_gate<U: Uses>(p: &Package<U>, me: &mut Thread<U>, at: Object, e: Event) -
     requires may { MayMake at me.old.number me.old.wait e }
     requires pen { MayTell p.now.traced me.old.life me.old.pen }
     ensures lost { result ≢ 0 → me.new ≡ record me.old {
-      failed = object_of at ∷ me.old.failed;
-      turns = without (object_of at) me.old.turns;
+      part = record me.old.part
+          { failed = object_of at ∷ me.old.failed; turns = without (object_of at) me.old.turns };
     } }
     ensures event { result ≡ 0 → Makes e me.old me.new }
-    ensures won { result ≡ 0 → me.new ≡ record (learnt me.old me.new) {
-      held = me.new.held;
-      wait = None;
-      failed = without (object_of at) me.old.failed;
-      turns = without (object_of at) me.old.turns;
-      pen = made me.old.pen;
+    ensures won { result ≡ 0 → me.new ≡ record me.old {
+      part = record (learnt me.old.part me.new.part) {
+        held = me.new.held;
+        wait = None;
+        failed = without (object_of at) me.old.failed;
+        turns = without (object_of at) me.old.turns;
+        pen = made me.old.pen;
+      };
       values = me.new.values;
     } }
     ensures taken { result ≡ 0 → IsTaken U.fits at me.old me.new }
@@ -193,14 +195,13 @@ fn take_slowly<U: Uses, R: Wait>(rt: &R, p: &Package<U>, me: &mut Thread<U>, at:
     requires may { MayMake at me.old.number me.old.wait e }
     requires stored { HasStored p.now.traced me.old }
     ensures event { Makes e me.old me.new }
-    ensures rest { me.new ≡ record (recorded me.old me.new) {
+    ensures rest { me.new ≡ record (recorded me.old me.new (λ q. record q {
       held = me.new.held;
       count = me.new.count;
       wait = None;
       failed = me.new.failed;
       turns = me.new.turns;
-      values = me.new.values;
-    } }
+    })) { values = me.new.values } }
     ensures turns { me.new.turns ≡ without (object_of at) me.old.turns }
     ensures taken { IsTaken U.fits at me.old me.new }
     ensures stored { HasStored p.now.traced me.new }
@@ -239,11 +240,13 @@ pub fn take_quiet<U: Uses, R: Wait>(rt: &R, p: &Package<U>, me: &mut Thread<U>, 
     requires waits { (x : Waiting) × (me.old.wait ≡ Some x) × (x.mutex.0 ≡ m.0) × (x.alertable ≡ true) × (x.bit ≡ Open) }
     requires alerted { me.old.alerted ≡ true }
     ensures rest { me.new ≡ record me.old {
-      held = me.new.held;
-      count = me.new.count;
-      wait = quieted me.old.wait;
-      failed = me.new.failed;
-      turns = me.new.turns;
+      part = record me.old.part {
+        held = me.new.held;
+        count = me.new.count;
+        wait = quieted me.old.wait;
+        failed = me.new.failed;
+        turns = me.new.turns;
+      };
       values = me.new.values;
     } }
     ensures turns { me.new.turns ≡ without m.0 me.old.turns }
@@ -323,11 +326,13 @@ pub fn enqueue_and_sleep<U: Uses, R: Wait>(
     requires tried { mem (object_of at) me.old.failed ≡ true }
     ensures plain { alertable ≡ false → result ≡ true }
     ensures rest { me.new ≡ record me.old {
-      count = me.new.count;
-      stand = me.new.stand;
-      failed = without (object_of at) me.old.failed;
-      turns = me.new.turns;
-      alerted = me.new.alerted;
+      part = record me.old.part {
+        count = me.new.count;
+        stand = me.new.stand;
+        failed = without (object_of at) me.old.failed;
+        turns = me.new.turns;
+        alerted = me.new.alerted;
+      };
     } }
     ensures turns { without (object_of at) me.new.turns ≡ without (object_of at) me.old.turns }
     ensures goes_on { result ≡ true → (me.new.stand ≡ None) × (me.new.alerted ≡ me.old.alerted) }

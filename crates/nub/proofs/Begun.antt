@@ -13,7 +13,7 @@ use Rattle.nub_rule.specs.declared.view.Kind.TheVariants.{Member}
 use Rattle.nub_rule.specs.Ends.{first_known, newborn_known}
 use Rattle.nub_rule.specs.Forks.{AreAll, IsUnborn, in_order}
 use Rattle.nub_rule.specs.Items.{Each}
-use Rattle.nub_rule.specs.Known.{HasNone, Known, Makes, Shape, known_as, part_of}
+use Rattle.nub_rule.specs.Known.{HasNone, Known, Makes, Shape, known_as}
 use Rattle.nub_rule.specs.Parts.{HasNothing, fresh}
 use Rattle.nub_rule.specs.Rule.{begun}
 use Rattle.nub_rule.proofs.Each.{each-snoc, put-else}
@@ -121,7 +121,7 @@ module _ {T H W : Type 0} where
   }
 
   -- a thread at rest without a mutex has nothing, nor with the pen
-  pub nothing_at_rest : (p : Shape W) (a b : Known T H W) → b ≡ record a { pen = b.pen; next = b.next } → AtRest p a → HasNone a → HasNothing (part_of b)
+  pub nothing_at_rest : (p : Shape W) (a b : Known T H W) → b ≡ record a { part = record a.part { pen = b.pen }; next = b.next } → AtRest p a → HasNone a → HasNothing b.part
   nothing_at_rest p a b e rest none = record {
     none = λ m x got. none m x (ap (λ k. get_elem? k.held m) (sym e) ∙ got);
     spin = ap (λ k. k.spin) e ∙ rest.outside.spin;

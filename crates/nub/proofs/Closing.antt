@@ -16,7 +16,7 @@ use Rattle.nub_rule.specs.declared.package.Stored.{Stored}
 use Rattle.nub_rule.specs.declared.view.Part.{Part}
 use Rattle.nub_rule.specs.Ends.{first_known, Leaves}
 use Rattle.nub_rule.specs.Items.{Each, HistoryItem, Shared, places_from}
-use Rattle.nub_rule.specs.Known.{Known, Shape, part_of}
+use Rattle.nub_rule.specs.Known.{Known, Shape}
 use Rattle.nub.specs.Ended.{IsFirst, IsWhole, KeepsLocks}
 use Rattle.nub.specs.History.{AreStored, entries_from, entries_of}
 use Rattle.nub.specs.Rest.{HasStored}
@@ -108,50 +108,50 @@ module _ {T H W : Type 0} where
   first_is p begin n t low few one e = let P : Known T H W → Type 0 = λ k. IsFirst p begin n k in subst P (sym e) (first_living p begin One n low few one refl)
 
   -- the same threads leave the same
-  pub left_by : (layout : Layout) (holds : List T → List H → Type 0) (threads others : List (Known T H W)) (values : List T) → threads ≡ others → Leaves layout holds (map (λ t. part_of t) threads) values → Leaves layout holds (map (λ t. part_of t) others) values
-  left_by layout holds threads others values e l = subst (λ (ts : List (Known T H W)). Leaves layout holds (map (λ t. part_of t) ts) values) e l
+  pub left_by : (layout : Layout) (holds : List T → List H → Type 0) (threads others : List (Known T H W)) (values : List T) → threads ≡ others → Leaves layout holds (map (λ t. t.part) threads) values → Leaves layout holds (map (λ t. t.part) others) values
+  left_by layout holds threads others values e l = subst (λ (ts : List (Known T H W)). Leaves layout holds (map (λ t. t.part) ts) values) e l
 
-  shares-are : (threads : List (Known T H W)) (shares : List H) → length shares ≡ length (map (λ t. part_of t) threads) → Each (Shared shares) (map (λ t. part_of t) threads) → map (λ t. t.share) threads ≡ map (λ s. Some s) shares
+  shares-are : (threads : List (Known T H W)) (shares : List H) → length shares ≡ length (map (λ t. t.part) threads) → Each (Shared shares) (map (λ t. t.part) threads) → map (λ t. t.share) threads ≡ map (λ s. Some s) shares
   shares-are [] [] n each = refl
   shares-are [] (s ∷ shares) n each = absurd (omega arith)
   shares-are (t ∷ threads) [] n each = absurd (omega arith)
   shares-are (t ∷ threads) (s ∷ shares) n each =
-      let own = each 0 (part_of t) refl in
+      let own = each 0 t.part refl in
       let same : own.0 ≡ s = sym (some-injective s own.0 own.2) in
       let rest = shares-are threads shares (omega arith) (λ k. each (suc k)) in
       let head : t.share ≡ Some s = own.1 ∙ ap (λ (z : H). Some z) same in
       cc
 
-  pub keeps_locks : (layout : Layout) (holds : List T → List H → Type 0) (threads : List (Known T H W)) (values : List T) → Leaves layout holds (map (λ t. part_of t) threads) values → KeepsLocks holds threads values
+  pub keeps_locks : (layout : Layout) (holds : List T → List H → Type 0) (threads : List (Known T H W)) (values : List T) → Leaves layout holds (map (λ t. t.part) threads) values → KeepsLocks holds threads values
   keeps_locks layout holds threads values l = record { shares = l.shares; each_share = shares-are threads l.shares l.each_share l.shared; kept = l.kept }
 
   -- each event of the history is by one of the threads
-  by-threads : (layout : Layout) (threads : List (Known T H W)) (log : List Event) → HistoryItem layout log (map (λ t. part_of t) threads) → All (λ e. e.thread.0 < length threads) log
+  by-threads : (layout : Layout) (threads : List (Known T H W)) (log : List Event) → HistoryItem layout log (map (λ t. t.part) threads) → All (λ e. e.thread.0 < length threads) log
   by-threads layout threads log recorded k e m =
       let a = recorded.people k (get_or log k e) (at_get_or log k e m) in
-      let n : length (map (λ t. part_of t) threads) ≡ length threads = length-map threads (λ t. part_of t) in
+      let n : length (map (λ t. t.part) threads) ≡ length threads = length-map threads (λ t. t.part) in
       omega arith
 
-  part_at : (threads : List (Known T H W)) (n : ℕ) (p : Part T H) → get_elem? (map (λ t. part_of t) threads) n ≡ some p → (t : Known T H W) × (get_elem? threads n ≡ some t) × (t.seen ≡ p.seen)
+  part_at : (threads : List (Known T H W)) (n : ℕ) (p : Part T H) → get_elem? (map (λ t. t.part) threads) n ≡ some p → (t : Known T H W) × (get_elem? threads n ≡ some t) × (t.seen ≡ p.seen)
   part_at [] n p e = absurd (some-ne-none p (sym e))
-  part_at (t ∷ threads) zero p e = (t, refl, ap (λ q. q.seen) (some-injective (part_of t) p e))
+  part_at (t ∷ threads) zero p e = (t, refl, ap (λ q. q.seen) (some-injective t.part p e))
   part_at (t ∷ threads) (suc n) p e = part_at threads n p e
 
-  pub whole : (layout : Layout) (holds : List T → List H → Type 0) (threads : List (Known T H W)) (values : List T) (l : Leaves layout holds (map (λ t. part_of t) threads) values) → length threads ≡ layout.threads → IsWhole layout threads l.log
+  pub whole : (layout : Layout) (holds : List T → List H → Type 0) (threads : List (Known T H W)) (values : List T) (l : Leaves layout holds (map (λ t. t.part) threads) values) → length threads ≡ layout.threads → IsWhole layout threads l.log
   whole layout holds threads values l count = record {
     closed = (l.spec, l.run, l.nothing_held, l.nothing_begun, l.over);
     people = by-threads layout threads l.log l.history;
     names = λ k e m. let a = by-threads layout threads l.log l.history k e m in (omega arith, l.history.names k (get_or l.log k e) (at_get_or l.log k e m));
     longest = ⊎_elim
         (λ (none : l.log ≡ []). inl none)
-        (λ (t : (n : ℕ) × (p : Part T H) × (get_elem? (map (λ t. part_of t) threads) n ≡ some p) × (p.seen ≡ l.log)). let k = part_at threads t.0 t.1 t.2 in inr (t.0, k.0, k.1, k.2 ∙ t.3))
+        (λ (t : (n : ℕ) × (p : Part T H) × (get_elem? (map (λ t. t.part) threads) n ≡ some p) × (p.seen ≡ l.log)). let k = part_at threads t.0 t.1 t.2 in inr (t.0, k.0, k.1, k.2 ∙ t.3))
         l.history.longest;
-    seen = λ n t e. (l.history.each n (part_of t) (at_map (λ t. part_of t) threads n t e)).begins;
-    own = λ n t e. (l.history.each n (part_of t) (at_map (λ t. part_of t) threads n t e)).own;
+    seen = λ n t e. (l.history.each n t.part (at_map (λ t. t.part) threads n t e)).begins;
+    own = λ n t e. (l.history.each n t.part (at_map (λ t. t.part) threads n t e)).own;
   }
 
   -- what the closed threads have stored, where none of it is lost, is the history
-  pub are_stored : (layout : Layout) (holds : List T → List H → Type 0) (p : Shape W) (threads : List (Known T H W)) (values : List T) (stored : List Stored) (l : Leaves layout holds (map (λ t. part_of t) threads) values) → Each (λ _ t. HasStored p.traced t) threads → p.traced ≡ true
+  pub are_stored : (layout : Layout) (holds : List T → List H → Type 0) (p : Shape W) (threads : List (Known T H W)) (values : List T) (stored : List Stored) (l : Leaves layout holds (map (λ t. t.part) threads) values) → Each (λ _ t. HasStored p.traced t) threads → p.traced ≡ true
       → map (λ s. s.entries.items) stored ≡ map (λ t. t.entries) threads → map (λ s. s.lost) stored ≡ map (λ t. t.lost) threads → AreStored l.log stored
   are_stored layout holds p threads values stored l done traced entries losses =
       let n0 : length (map (λ s. s.entries.items) stored) ≡ length stored = length-map stored (λ s. s.entries.items) in
@@ -167,6 +167,6 @@ module _ {T H W : Type 0} where
             let same : s.entries.items ≡ k.entries = some-injective s.entries.items k.entries (sym (at_map (λ s. s.entries.items) stored t s at) ∙ (ap (λ xs. get_elem? xs t) entries ∙ at_map (λ t. t.entries) threads t k there.1)) in
             let lost : s.lost ≡ k.lost = some-injective s.lost k.lost (sym (at_map (λ s. s.lost) stored t s at) ∙ (ap (λ xs. get_elem? xs t) losses ∙ at_map (λ t. t.lost) threads t k there.1)) in
             let own = done t k there.1 traced (sym lost ∙ whole) in
-            let log = l.history.each t (part_of k) (at_map (λ t. part_of t) threads t k there.1) in
+            let log = l.history.each t k.part (at_map (λ t. t.part) threads t k there.1) in
             same ∙ same_entries k.entries (entries_of t l.log) (own.0 ∙ (sym log.placed ∙ sym (numbers-of t 0 l.log))) (own.1 ∙ (sym log.own ∙ sym (events-of t 0 l.log)));
       }

@@ -59,7 +59,7 @@ less_owed t xs e = ap (without t) e ∙ without_own t []
 
 module _ {T H W : Type 0} where
   -- an event that was made with the pen comes next in the list
-  pub comes_next : (traced : Bool) (a b c : Known T H W) (e : Event) → b ≡ record a { pen = b.pen; next = b.next } → (traced ≡ true → b.pen ≡ Read b.next) → Makes e b c → c.next ≡ b.next → c.entries ≡ b.entries → c.lost ≡ b.lost
+  pub comes_next : (traced : Bool) (a b c : Known T H W) (e : Event) → b ≡ record a { part = record a.part { pen = b.pen }; next = b.next } → (traced ≡ true → b.pen ≡ Read b.next) → Makes e b c → c.next ≡ b.next → c.entries ≡ b.entries → c.lost ≡ b.lost
       → HasStored traced a → traced ≡ true → ComesNext e c
   comes_next traced a b c e begin next makes same entries lost has t l =
       let k = b.next in
@@ -73,8 +73,8 @@ module _ {T H W : Type 0} where
       )
 
   -- an event was made with the pen between a and d, and stored
-  pub stored_by : (traced : Bool) (a b c d : Known T H W) (e : Event) → b ≡ record a { pen = b.pen; next = b.next } → MayTell traced b.life b.pen → (traced ≡ true → b.pen ≡ Read b.next) → Makes e b c → c.next ≡ b.next → c.entries ≡ b.entries → c.lost ≡ b.lost
-      → d ≡ record c { pen = No; entries = d.entries; lost = d.lost }
+  pub stored_by : (traced : Bool) (a b c d : Known T H W) (e : Event) → b ≡ record a { part = record a.part { pen = b.pen }; next = b.next } → MayTell traced b.life b.pen → (traced ≡ true → b.pen ≡ Read b.next) → Makes e b c → c.next ≡ b.next → c.entries ≡ b.entries → c.lost ≡ b.lost
+      → d ≡ record c { part = record c.part { pen = No }; entries = d.entries; lost = d.lost }
       → ((x : Event) → Some e ≡ Some x → traced ≡ true → d.lost ≡ false → (c.lost ≡ false) × (d.entries ≡ c.entries ++ record { number = c.next; event = x } ∷ []))
       → HasStored traced a → HasStored traced d
   stored_by traced a b c d e begin tell next makes same entries lost end store has t l =
@@ -88,8 +88,8 @@ module _ {T H W : Type 0} where
       (ap (λ (z : Known T H W). z.mine) end ∙ (makes.3 ∙ ap (λ (ms : List Event). ms ++ e ∷ []) (ap (λ (z : Known T H W). z.mine) begin)))
 
   -- a thread that slept in the queue of o stands nowhere
-  pub after_sleep : (old lv sl : Known T H W) (o : ℕ) (f : List ℕ) → old.stand ≡ None → lv ≡ record old { count = lv.count; failed = f; stand = lv.stand } → (o < 128 → sl ≡ record lv { stand = None; turns = o ∷ lv.turns }) → (128 ≤ o → sl ≡ record lv { stand = None })
-      → (sl ≡ record old { count = sl.count; failed = f; turns = sl.turns }) × (without o sl.turns ≡ without o old.turns)
+  pub after_sleep : (old lv sl : Known T H W) (o : ℕ) (f : List ℕ) → old.stand ≡ None → lv ≡ record old { part = record old.part { count = lv.count; failed = f; stand = lv.stand } } → (o < 128 → sl ≡ record lv { part = record lv.part { stand = None; turns = o ∷ lv.turns } }) → (128 ≤ o → sl ≡ record lv { part = record lv.part { stand = None } })
+      → (sl ≡ record old { part = record old.part { count = sl.count; failed = f; turns = sl.turns } }) × (without o sl.turns ≡ without o old.turns)
   after_sleep old lv sl o f stand left gate cond = ⊎_elim
       (λ (l : o < 128). let g = gate l in (search rules, ap (λ (z : Known T H W). without o z.turns) g ∙ (without_own o lv.turns ∙ ap (λ (z : Known T H W). without o z.turns) left)))
       (λ (l : 128 ≤ o). let g = cond l in (search rules, ap (λ (z : Known T H W). without o z.turns) g ∙ ap (λ (z : Known T H W). without o z.turns) left))

@@ -5,7 +5,7 @@ use Rattle.larch_actions.specs.declared.event.Life.TheVariants.{Live}
 use Rattle.larch_actions.specs.Actions.{IsLegal, StartsWith, by_thread}
 use Rattle.nub_rule.specs.declared.view.Child.TheVariants as child
 use Rattle.nub_rule.specs.declared.view.Pen.TheVariants.{No}
-use Rattle.nub_rule.specs.Known.{Known, Shape, Holds, IsOut, part_of}
+use Rattle.nub_rule.specs.Known.{Known, Shape, Holds, IsOut}
 use Rattle.nub_rule.specs.Owed.{MustLook}
 
 module _ {T H W : Type 0} where
@@ -42,7 +42,7 @@ module _ {T H W : Type 0} where
 
   -- the thread needn't look at any mutex or semaphore, whatever is in its queue
   abbrev pub IsBoundNowhere : Known T H W → Type 0
-  IsBoundNowhere k = (o : ℕ) (queue : List ℕ) → ¬ MustLook o queue k.number (part_of k)
+  IsBoundNowhere k = (o : ℕ) (queue : List ℕ) → ¬ MustLook o queue k.number k.part
 
   -- a call added these own events and then e: the history seen grew to a legal one that ends with
   -- e, and the own events are the thread's part of it

@@ -93,7 +93,7 @@ pub fn end_thread<U: Uses, R: Wait>(rt: &R, p: &Package<U>, mut me: Thread<U>) -
     end_event(p, &mut me, Some(e));
     // After the word was stored: a thread that wakes up reads it, and would park again if it weren't set yet. And after the pen was given
     // back, which a joiner needs to read the word.
-    unpark_all(p);
+    unpark_all(p, &me);
     Ended::of(me)
 }
 

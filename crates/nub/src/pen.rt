@@ -20,7 +20,7 @@ pub fn begin_event<U: Uses, R: Wait>(rt: &R, p: &Package<U>, me: &mut Thread<U>)
     requires of { me.old.table_id ≡ p.now.table_id }
     requires out { me.old.pen ≡ No }
     requires live { me.old.life ≡ Live }
-    ensures pen { me.new ≡ record me.old { pen = me.new.pen; next = me.new.next } }
+    ensures pen { me.new ≡ record me.old { part = record me.old.part { pen = me.new.pen }; next = me.new.next } }
     ensures traced { MayTell p.now.traced me.new.life me.new.pen }
     ensures number { p.now.traced ≡ true → me.new.pen ≡ Read me.new.next }
     ensures untraced { p.now.traced ≡ false → me.new ≡ me.old }
@@ -39,7 +39,7 @@ pub fn end_event<U: Uses>(p: &Package<U>, me: &mut Thread<U>, made: Option<Event
         × ((e : Event) → made ≡ Some e → me.old.pen ≡ Made me.old.next) }
     requires out { p.now.traced ≡ false → me.old.pen ≡ No }
     requires last { p.now.traced ≡ true → (e : Event) → made ≡ Some e → ComesNext e me.old }
-    ensures rest { me.new ≡ record me.old { pen = No; entries = me.new.entries; lost = me.new.lost } }
+    ensures rest { me.new ≡ record me.old { part = record me.old.part { pen = No }; entries = me.new.entries; lost = me.new.lost } }
     ensures untraced { p.now.traced ≡ false → me.new ≡ me.old }
     ensures none { made ≡ None → (me.new.entries ≡ me.old.entries) × (me.new.lost ≡ me.old.lost) }
     ensures stored { (e : Event) → made ≡ Some e → p.now.traced ≡ true → me.new.lost ≡ false → (me.old.lost ≡ false)
@@ -56,7 +56,7 @@ fn begin_traced<U: Uses, R: Wait>(rt: &R, p: &Package<U>, me: &mut Thread<U>)
     requires of { me.old.table_id ≡ p.now.table_id }
     requires traced { p.now.traced ≡ true }
     requires out { me.old.pen ≡ No }
-    ensures read { me.new ≡ record me.old { pen = Read me.new.next; next = me.new.next } }
+    ensures read { me.new ≡ record me.old { part = record me.old.part { pen = Read me.new.next }; next = me.new.next } }
     ensures below { me.new.next < 18446744073709551615 }
 {
     let backoff = Backoff::new();
@@ -81,7 +81,7 @@ fn end_traced<U: Uses>(p: &Package<U>, me: &mut Thread<U>, made: Option<Event>)
     requires below { me.old.next < 18446744073709551615 }
     requires pen { (made ≡ None → me.old.pen ≡ Read me.old.next) × ((e : Event) → made ≡ Some e → me.old.pen ≡ Made me.old.next) }
     requires last { (e : Event) → made ≡ Some e → ComesNext e me.old }
-    ensures rest { me.new ≡ record me.old { pen = No; entries = me.new.entries; lost = me.new.lost } }
+    ensures rest { me.new ≡ record me.old { part = record me.old.part { pen = No }; entries = me.new.entries; lost = me.new.lost } }
     ensures none { made ≡ None → (me.new.entries ≡ me.old.entries) × (me.new.lost ≡ me.old.lost) }
     ensures stored { (e : Event) → made ≡ Some e → me.new.lost ≡ false → (me.old.lost ≡ false)
         × (me.new.entries ≡ me.old.entries ++ record { number = me.old.next; event = e } ∷ []) }

@@ -22,15 +22,19 @@ pub fn push<U: Uses>(p: &Package<U>, me: &mut Thread<U>, at: Object)
     requires outside { me.old.stand ≡ None }
     requires may { MayPush at me.old }
     ensures gate { IsGate at → me.new ≡ record me.old {
-      queue = me.old.queue ++ me.old.number ∷ [];
-      left = me.old.left ++ me.old.number ∷ [];
-      stand = Some record { at = object_of at; stage = Pushed };
+      part = record me.old.part {
+        queue = me.old.queue ++ me.old.number ∷ [];
+        left = me.old.left ++ me.old.number ∷ [];
+        stand = Some record { at = object_of at; stage = Pushed };
+      };
     } }
     ensures cond { IsCond at → me.new ≡ record me.old {
-      queue = me.old.queue ++ me.old.number ∷ [];
-      left = me.old.left ++ me.old.number ∷ [];
-      stand = Some record { at = object_of at; stage = Tested };
-      wait = unread me.old.wait;
+      part = record me.old.part {
+        queue = me.old.queue ++ me.old.number ∷ [];
+        left = me.old.left ++ me.old.number ∷ [];
+        stand = Some record { at = object_of at; stage = Tested };
+        wait = unread me.old.wait;
+      };
     } }
 {
     push_queue(p, me, at);
@@ -66,13 +70,15 @@ pub fn pop<U: Uses>(p: &Package<U>, me: &mut Thread<U>, at: Object) -> Option<Th
     ensures first { (t : ThreadId) → result ≡ Some t → (me.old.queue ≡ t.0 ∷ tail_of me.old.queue)
         × (me.new.owed ≡ me.old.owed ++ t.0 ∷ []) }
     ensures gate { IsGate at → me.new ≡ record me.old {
-      queue = tail_of me.old.queue;
-      left = tail_of me.old.left;
-      owed = me.new.owed;
-      cleared = without (object_of at) me.old.cleared;
-      looked = without (object_of at) me.old.looked;
+      part = record me.old.part {
+        queue = tail_of me.old.queue;
+        left = tail_of me.old.left;
+        owed = me.new.owed;
+        cleared = without (object_of at) me.old.cleared;
+        looked = without (object_of at) me.old.looked;
+      };
     } }
-    ensures cond { IsCond at → me.new ≡ record me.old { queue = tail_of me.old.queue; owed = me.new.owed } }
+    ensures cond { IsCond at → me.new ≡ record me.old { part = record me.old.part { queue = tail_of me.old.queue; owed = me.new.owed } } }
     ensures owes { result ≡ None → me.new.owed ≡ me.old.owed }
 {
     pop_queue(p, me, at)
@@ -86,7 +92,7 @@ pub fn wake_from_condition<U: Uses>(p: &Package<U>, me: &mut Thread<U>, woken: T
     requires of { me.old.table_id ≡ p.now.table_id }
     requires owed { mem woken.0 me.old.owed ≡ true }
     requires named { woken.0 < most_threads }
-    ensures { me.new ≡ record me.old { owed = without woken.0 me.old.owed } }
+    ensures { me.new ≡ record me.old { part = record me.old.part { owed = without woken.0 me.old.owed } } }
 {
     // The word first, then the unparking: a thread that wakes up reads the word, and would park
     // again if it weren't set yet.

@@ -30,11 +30,17 @@ pub fn sleep<U: Uses, R: Wait>(rt: &R, p: &Package<U>, me: &mut Thread<U>, alert
     requires heard { HearsAlerts alertable me.old }
     ensures plain { alertable ≡ false → result ≡ true }
     ensures is_new { result ≡ true → (s : Stand) → me.old.stand ≡ Some s → s.at < 128 → me.new ≡ record me.old {
-      stand = None;
-      turns = s.at ∷ me.old.turns;
+      part = record me.old.part
+          { stand = None; turns = s.at ∷ me.old.turns };
     } }
-    ensures at_cond { result ≡ true → (s : Stand) → me.old.stand ≡ Some s → 128 ≤ s.at → me.new ≡ record me.old { stand = None } }
-    ensures alerted { result ≡ false → me.new ≡ record me.old { alerted = true; stand = staged Alerted me.old.stand } }
+    ensures at_cond { result ≡ true → (s : Stand) → me.old.stand ≡ Some s → 128 ≤ s.at → me.new ≡ record me.old {
+      part = record me.old.part
+          { stand = None };
+    } }
+    ensures alerted { result ≡ false → me.new ≡ record me.old {
+      part = record me.old.part
+          { alerted = true; stand = staged Alerted me.old.stand };
+    } }
 {
     let looks = if may_spin(me, Look::Ready) { LOOKS } else { 0 };
     let mut left = looks;

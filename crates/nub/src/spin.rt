@@ -23,12 +23,14 @@ pub fn enter<U: Uses, R: Wait>(rt: &R, p: &Package<U>, me: &mut Thread<U>, at: O
     requires outside { me.old.spin ≡ None }
     requires reason { HasReason at me.old why }
     ensures inside { me.new ≡ record me.old {
-      spin = Some (object_of at);
-      queue = me.new.queue;
-      owed = [];
-      left = me.new.queue;
-      count = me.new.count;
-      failed = without (object_of at) me.old.failed;
+      part = record me.old.part {
+        spin = Some (object_of at);
+        queue = me.new.queue;
+        owed = [];
+        left = me.new.queue;
+        count = me.new.count;
+        failed = without (object_of at) me.old.failed;
+      };
     } }
     ensures small { Small most_threads me.new.queue }
     ensures there { mem me.old.number me.new.queue ≡ true → stands_at me.old.stand (object_of at) ≡ true }
@@ -55,7 +57,7 @@ pub fn leave<U: Uses, R: Wait>(rt: &R, p: &Package<U>, me: &mut Thread<U>, at: O
     requires inside { me.old.spin ≡ Some (object_of at) }
     requires owes_none { me.old.owed ≡ [] }
     requires even { me.old.left ≡ me.old.queue }
-    ensures { me.new ≡ record me.old { spin = None; queue = []; left = [] } }
+    ensures { me.new ≡ record me.old { part = record me.old.part { spin = None; queue = []; left = [] } } }
 {
     let _ = rt;
     give_spin(p, me, at);

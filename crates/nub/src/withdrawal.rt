@@ -29,11 +29,8 @@ pub fn withdraw<U: Uses, R: Wait>(rt: &R, p: &Package<U>, me: &mut Thread<U>, at
     requires alerted { StandsAs (λ s. (s.at ≡ object_of at) × IsAlerted s.stage) me.old × (me.old.alerted ≡ true) }
     requires may { MayWithdraw at me.old }
     ensures rest { me.new ≡ record me.old {
-      count = me.new.count;
-      stand = None;
-      failed = without (object_of at) me.old.failed;
-      turns = me.new.turns;
-      wait = me.new.wait;
+      part = record me.old.part
+          { count = me.new.count; stand = None; failed = without (object_of at) me.old.failed; turns = me.new.turns; wait = me.new.wait };
     } }
     ensures is_new { IsGate at → me.new.wait ≡ me.old.wait }
     ensures turns { without (object_of at) me.new.turns ≡ without (object_of at) me.old.turns }

@@ -14,7 +14,7 @@ use Rattle.nub_rule.specs.declared.view.Part.{Part}
 use Rattle.nub_rule.specs.declared.view.View.{View}
 use Rattle.nub_rule.specs.Items.{queue_of}
 use Rattle.nub_rule.specs.Parts.{Got}
-use Rattle.nub_rule.specs.Known.{Known, changed, known_as, part_of, values_of, value_in, IsThread, Makes, PicksShare}
+use Rattle.nub_rule.specs.Known.{Known, known_as, values_of, value_in, IsThread, Makes, PicksShare}
 use Rattle.nub_rule.specs.Places.{most_threads, queue_at, value_at}
 use Rattle.nub_rule.specs.Plays.{Sat, with_part, recorded, Grows}
 use Rattle.nub_rule.specs.Slots.{find, IsDistinct, Below, past_first}
@@ -26,12 +26,12 @@ use Rattle.nub_rule.proofs.Turns.{keys}
 module _ {T H W : Type 0} where
   -- the thread, as contracts see it, after a step that changed the part by f and the values by h
   pub seen_as : (f : ℕ → Part T H → Part T H) (h : List (Opt (Opt T)) → List (Opt (Opt T))) (z z' : TableId) (n : ℕ) (es : List Entry) (lo : Bool) {nx : ℕ} (me me' : Sat T H W) (ds : List (ℕ × Slot T)) (a : Known T H W)
-      → known_as z n me es lo nx ≡ a → z' ≡ z → me' ≡ (with_part me.0 (f n me.0.part), ds) → values_of ds ≡ h (values_of me.1) → known_as z' n me' es lo nx ≡ changed a (f a.number (part_of a)) (h a.values)
-  seen_as f h z z' n es lo {nx} me me' ds a v ez em vs = subst (λ (t : TableId × Sat T H W × Known T H W). known_as t.0 n t.1 es lo nx ≡ changed t.2 (f t.2.number (part_of t.2)) (h t.2.values)) (λ i. (sym ez i, sym em i, v i))
-      (λ i. changed (known_as z n me es lo nx) (f n me.0.part) (vs i))
+      → known_as z n me es lo nx ≡ a → z' ≡ z → me' ≡ (with_part me.0 (f n me.0.part), ds) → values_of ds ≡ h (values_of me.1) → known_as z' n me' es lo nx ≡ record a { part = f a.number a.part; values = h a.values }
+  seen_as f h z z' n es lo {nx} me me' ds a v ez em vs = subst (λ (t : TableId × Sat T H W × Known T H W). known_as t.0 n t.1 es lo nx ≡ record t.2 { part = f t.2.number t.2.part; values = h t.2.values }) (λ i. (sym ez i, sym em i, v i))
+      (λ i. record (known_as z n me es lo nx) { part = f n me.0.part; values = vs i })
 
   -- and after a step that changed the part alone
-  pub noted : (f : ℕ → Part T H → Part T H) (z z' : TableId) (n : ℕ) (es : List Entry) (lo : Bool) {nx : ℕ} (me me' : Sat T H W) (a : Known T H W) → known_as z n me es lo nx ≡ a → z' ≡ z → me' ≡ (with_part me.0 (f n me.0.part), me.1) → known_as z' n me' es lo nx ≡ changed a (f a.number (part_of a)) a.values
+  pub noted : (f : ℕ → Part T H → Part T H) (z z' : TableId) (n : ℕ) (es : List Entry) (lo : Bool) {nx : ℕ} (me me' : Sat T H W) (a : Known T H W) → known_as z n me es lo nx ≡ a → z' ≡ z → me' ≡ (with_part me.0 (f n me.0.part), me.1) → known_as z' n me' es lo nx ≡ record a { part = f a.number a.part }
   noted f z z' n es lo me me' a v ez em = seen_as f (λ vs. vs) z z' n es lo me me' me.1 a v ez em refl
 
   -- the thread is one still after a step that changed neither what it has nor where it stands
@@ -43,7 +43,7 @@ module _ {T H W : Type 0} where
   -- the thread is one still, and contracts see it with its part changed by f and its values by h
   pub record After (f : ℕ → Part T H → Part T H) (h : List (Opt (Opt T)) → List (Opt (Opt T))) (z z' : TableId) (n : ℕ) (hand : List ℕ) (me me' : Sat T H W) (kept : List T) (room : ℕ) : Type 0 where
     pub fits : IsThread z' n hand me' kept room
-    pub sees : (es : List Entry) (lo : Bool) (nx : ℕ) (a : Known T H W) → known_as z n me es lo nx ≡ a → known_as z' n me' es lo nx ≡ changed a (f a.number (part_of a)) (h a.values)
+    pub sees : (es : List Entry) (lo : Bool) (nx : ℕ) (a : Known T H W) → known_as z n me es lo nx ≡ a → known_as z' n me' es lo nx ≡ record a { part = f a.number a.part; values = h a.values }
 
   -- the queue of the object whose spin word the thread has stands first in its hand
   pub record QueueAtHand (me front : Sat T H W) (hand : List ℕ) (o : ℕ) : Type 0 where
@@ -66,7 +66,7 @@ module _ {T H W : Type 0} where
   -- what contracts see of a thread after the queue became zs, by a step that changed the part by f
   pub requeued_seen : (f : ℕ → Part T H → Part T H) (zs : List ℕ) (s : Slot T) (z z' : TableId) (n : ℕ) (hand hand' : List ℕ) (me front me' : Sat T H W) (o : ℕ) {kept : List T} {room : ℕ} → IsThread z n hand me kept room → QueueAtHand me front hand' o → z' ≡ z → s ≡ Queue (queue_of zs)
       → me' ≡ (with_part front.0 (f front.0.number front.0.part), (queue_at o, s) ∷ rest front.1)
-      → (es : List Entry) (lo : Bool) (nx : ℕ) (a : Known T H W) → known_as z n me es lo nx ≡ a → known_as z' n me' es lo nx ≡ changed a (f a.number (part_of a)) a.values
+      → (es : List Entry) (lo : Bool) (nx : ℕ) (a : Known T H W) → known_as z n me es lo nx ≡ a → known_as z' n me' es lo nx ≡ record a { part = f a.number a.part }
   requeued_seen f zs s z z' n hand hand' me front me' o i at ez is em es lo nx a v =
       let ds : List (ℕ × Slot T) = (queue_at o, Queue (queue_of zs)) ∷ rest front.1 in
       let r = at.refill zs in

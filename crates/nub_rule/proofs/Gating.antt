@@ -25,7 +25,7 @@ module _ {T H W : Type 0} where
   leave-gate (Cond c) k gate stands = absurd gate
 
   -- who has left the queue of a gate has its turn there, unless it had found the bit set
-  pub left-gate : (at : Object) (a b : Known T H W) → IsGate at → HasLeft at a b → b ≡ record a { queue = less a.number a.queue; left = less a.number a.left; stand = None; turns = left_turns a.stand a.turns }
+  pub left-gate : (at : Object) (a b : Known T H W) → IsGate at → HasLeft at a b → b ≡ record a { part = record a.part { queue = less a.number a.queue; left = less a.number a.left; stand = None; turns = left_turns a.stand a.turns } }
   left-gate (Mutex m) a b gate left = left
   left-gate (Sem s) a b gate left = left
   left-gate (Cond c) a b gate left = absurd gate

@@ -168,16 +168,16 @@ module _ {T H W : Type 0} where
   }
 
   module _ (at : Object) (r : Opt ThreadId) (k b : Known T H W) where
-    gate_out : Requeued pop_gate_tells (object_of at) k b → b ≡ record k { queue = tail_of k.queue; owed = k.owed ++ front k.queue; left = tail_of k.left; cleared = without (object_of at) k.cleared; looked = without (object_of at) k.looked }
+    gate_out : Requeued pop_gate_tells (object_of at) k b → b ≡ record k { part = record k.part { queue = tail_of k.queue; owed = k.owed ++ front k.queue; left = tail_of k.left; cleared = without (object_of at) k.cleared; looked = without (object_of at) k.looked } }
     gate_out u = u (λ n p. record p { queue = tail_of p.queue; owed = p.owed ++ front p.queue; left = tail_of p.left; cleared = without (object_of at) p.cleared; looked = without (object_of at) p.looked }) (λ st me r me' word t. t (object_of at) word)
 
-    cond_out : Requeued pop_cond_tells (object_of at) k b → b ≡ record k { queue = tail_of k.queue; owed = k.owed ++ front k.queue }
+    cond_out : Requeued pop_cond_tells (object_of at) k b → b ≡ record k { part = record k.part { queue = tail_of k.queue; owed = k.owed ++ front k.queue } }
     cond_out u = u (λ n p. record p { queue = tail_of p.queue; owed = p.owed ++ front p.queue }) (λ st me r me' word t. t)
 
     pub gate_popped : (r ≡ None → k.queue ≡ []) × ((t : ThreadId) → r ≡ Some t → k.queue ≡ t.0 ∷ tail_of k.queue) × Requeued pop_gate_tells (object_of at) k b
-        → Popped r k b × (b ≡ record k { queue = tail_of k.queue; left = tail_of k.left; owed = b.owed; cleared = without (object_of at) k.cleared; looked = without (object_of at) k.looked })
-    gate_popped u = let e = gate_out u.2 in (popped r k b u.0 u.1 (ap (λ x. x.owed) e), subst (λ b. b ≡ record k { queue = tail_of k.queue; left = tail_of k.left; owed = b.owed; cleared = without (object_of at) k.cleared; looked = without (object_of at) k.looked }) (sym e) refl)
+        → Popped r k b × (b ≡ record k { part = record k.part { queue = tail_of k.queue; left = tail_of k.left; owed = b.owed; cleared = without (object_of at) k.cleared; looked = without (object_of at) k.looked } })
+    gate_popped u = let e = gate_out u.2 in (popped r k b u.0 u.1 (ap (λ x. x.owed) e), subst (λ b. b ≡ record k { part = record k.part { queue = tail_of k.queue; left = tail_of k.left; owed = b.owed; cleared = without (object_of at) k.cleared; looked = without (object_of at) k.looked } }) (sym e) refl)
 
     pub cond_popped : (r ≡ None → k.queue ≡ []) × ((t : ThreadId) → r ≡ Some t → k.queue ≡ t.0 ∷ tail_of k.queue) × Requeued pop_cond_tells (object_of at) k b
-        → Popped r k b × (b ≡ record k { queue = tail_of k.queue; owed = b.owed })
-    cond_popped u = let e = cond_out u.2 in (popped r k b u.0 u.1 (ap (λ x. x.owed) e), subst (λ b. b ≡ record k { queue = tail_of k.queue; owed = b.owed }) (sym e) refl)
+        → Popped r k b × (b ≡ record k { part = record k.part { queue = tail_of k.queue; owed = b.owed } })
+    cond_popped u = let e = cond_out u.2 in (popped r k b u.0 u.1 (ap (λ x. x.owed) e), subst (λ b. b ≡ record k { part = record k.part { queue = tail_of k.queue; owed = b.owed } }) (sym e) refl)

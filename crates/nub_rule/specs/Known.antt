@@ -5,8 +5,6 @@ use mathlib.Core.Option.{some}
 use lib.ListN.{get_elem?}
 use Rattle.larch_actions.specs.declared.event.Event.{Event}
 use Rattle.larch_actions.specs.declared.event.Layout.{Layout}
-use Rattle.larch_actions.specs.declared.event.Life.{Life}
-use Rattle.larch_actions.specs.declared.event.Version.{Version}
 use Rattle.larch_actions.specs.Layout.{IsLawful}
 use Rattle.atomic_table.specs.Table.{Me}
 use Rattle.atomic_table.specs.Seated.{TableId}
@@ -23,7 +21,6 @@ use Rattle.nub_rule.specs.declared.rule.Slot.TheVariants.{Value, Queue}
 use Rattle.nub_rule.specs.declared.view.Part.{Part}
 use Rattle.nub_rule.specs.declared.view.Wait.{Wait}
 use Rattle.nub_rule.specs.declared.view.Stand.{Stand}
-use Rattle.nub_rule.specs.declared.view.Pen.{Pen}
 use Rattle.nub_rule.specs.declared.view.Child.{Child}
 use Rattle.nub_rule.specs.declared.view.View.{View}
 use Rattle.nub_rule.specs.declared.view.Kind.TheVariants.{Member}
@@ -50,38 +47,10 @@ pub record Known (T H W : Type 0) : Type 0 where
   pub table_id : TableId
   pub number : ℕ
   pub world : Opt W
-  pub version : Version
-  -- the history as it was at the thread's last event, its own events, and the place of each in the
-  -- history
-  pub seen : List Event
-  pub mine : List Event
-  pub places : List ℕ
-  -- for each mutex, the value got, if the thread has the bit
-  pub held : List (Opt T)
-  pub share : Opt H
-  -- the object whose spin word the thread has, the queue there, the threads that it owes their
-  -- ready word, those of the queue that are still in the condition, and the count of the condition
-  pub spin : Opt ℕ
-  pub queue : List ℕ
-  pub owed : List ℕ
-  pub left : List ℕ
-  pub count : ℕ
-  -- the wait that the thread is in, and where it stands
-  pub wait : Opt Wait
-  pub stand : Opt Stand
-  -- the gates at which a try failed; those whose queue it has left and that it hasn't tried since;
-  -- those that it cleared, without a look at the queue since; and those of these at which it found
-  -- a queue
-  pub failed : List ℕ
-  pub turns : List ℕ
-  pub cleared : List ℕ
-  pub looked : List ℕ
-  pub pen : Pen
-  pub alerted : Bool
-  pub calling : Opt ℕ
-  pub raised : Opt ℕ
-  -- whether it was forked and has ended, and what it says of a thread that it forks
-  pub life : Life
+  -- what its seat's view has of it: a clause names a field of that as one of the thread
+  pub part : Part T H
+  pub open part use *
+  -- what it says of a thread that it forks
   pub child : Child
   -- for each mutex whose bit the thread has, the value, unless it was taken out
   pub values : List (Opt (Opt T))
@@ -100,34 +69,18 @@ module _ {T : Type 0} where
   abbrev pub values_of : List (ℕ × Slot T) → List (Opt (Opt T))
   values_of slots = map (λ m. value_in (find (value_at m) slots)) (range_with_len 0 64)
 
+module _ {T H : Type 0} where
+  -- the part p, but with the history that q has seen, q's own events and their places
+  abbrev pub learnt : Part T H → Part T H → Part T H
+  learnt p q = record p { seen = q.seen; mine = q.mine; places = q.places }
+
 module _ {T H W : Type 0} where
   abbrev pub known_as : TableId → ℕ → Me (Slot T) (View T H W) → List Entry → Bool → ℕ → Known T H W
-  known_as z n me entries lost next = let p = me.0.part in record {
+  known_as z n me entries lost next = record {
     table_id = z;
     number = n;
     world = me.0.world;
-    version = p.version;
-    seen = p.seen;
-    mine = p.mine;
-    places = p.places;
-    held = p.held;
-    share = p.share;
-    spin = p.spin;
-    queue = p.queue;
-    owed = p.owed;
-    left = p.left;
-    count = p.count;
-    wait = p.wait;
-    stand = p.stand;
-    failed = p.failed;
-    turns = p.turns;
-    cleared = p.cleared;
-    looked = p.looked;
-    pen = p.pen;
-    alerted = p.alerted;
-    calling = p.calling;
-    raised = p.raised;
-    life = p.life;
+    part = me.0.part;
     child = me.0.child;
     values = values_of me.1;
     entries = entries;
@@ -135,67 +88,10 @@ module _ {T H W : Type 0} where
     next = next;
   }
 
-  abbrev pub part_of : Known T H W → Part T H
-  part_of k = record {
-    version = k.version;
-    seen = k.seen;
-    mine = k.mine;
-    places = k.places;
-    held = k.held;
-    share = k.share;
-    spin = k.spin;
-    queue = k.queue;
-    owed = k.owed;
-    left = k.left;
-    count = k.count;
-    wait = k.wait;
-    stand = k.stand;
-    failed = k.failed;
-    turns = k.turns;
-    cleared = k.cleared;
-    looked = k.looked;
-    pen = k.pen;
-    alerted = k.alerted;
-    calling = k.calling;
-    raised = k.raised;
-    life = k.life;
-  }
-
-  -- the thread as contracts see it, with this part and these values
-  abbrev pub changed : Known T H W → Part T H → List (Opt (Opt T)) → Known T H W
-  changed k p vs = record k {
-    version = p.version;
-    seen = p.seen;
-    mine = p.mine;
-    places = p.places;
-    held = p.held;
-    share = p.share;
-    spin = p.spin;
-    queue = p.queue;
-    owed = p.owed;
-    left = p.left;
-    count = p.count;
-    wait = p.wait;
-    stand = p.stand;
-    failed = p.failed;
-    turns = p.turns;
-    cleared = p.cleared;
-    looked = p.looked;
-    pen = p.pen;
-    alerted = p.alerted;
-    calling = p.calling;
-    raised = p.raised;
-    life = p.life;
-    values = vs;
-  }
-
-  -- the thread a, but with the history that b has seen, b's own events and their places
-  abbrev pub learnt : Known T H W → Known T H W → Known T H W
-  learnt a b = record a { seen = b.seen; mine = b.mine; places = b.places }
-
-  -- and with what b has stored, and the number that b read
-  abbrev pub recorded : Known T H W → Known T H W → Known T H W
-  recorded a b = record a { seen = b.seen; mine = b.mine; places = b.places; entries = b.entries; lost = b.lost; next = b.next }
+  -- the thread a, but with what b has seen, made and stored and the number that b read, and its
+  -- part then changed by f
+  abbrev pub recorded : Known T H W → Known T H W → (Part T H → Part T H) → Known T H W
+  recorded a b f = record a { part = f (learnt a.part b.part); entries = b.entries; lost = b.lost; next = b.next }
 
   -- the thread has the bit of the mutex, and got x with it
   abbrev pub Holds : Known T H W → ℕ → T → Type 0
@@ -212,7 +108,7 @@ module _ {T H W : Type 0} where
   -- an event was made: the history seen grew to a legal one that ends with it, and the own events
   -- are the thread's part of that. In a traced package its place is the number that was read
   abbrev pub Makes : Event → Known T H W → Known T H W → Type 0
-  Makes e a b = (between : List Event) × Grows a.number (part_of a) between e × (b.seen ≡ (a.seen ++ between) ++ e ∷ [])
+  Makes e a b = (between : List Event) × Grows a.number a.part between e × (b.seen ≡ (a.seen ++ between) ++ e ∷ [])
       × (b.mine ≡ a.mine ++ e ∷ []) × (b.places ≡ a.places ++ length (a.seen ++ between) ∷ [])
 
   -- the thread may release the mutex: it has the bit, and the slot has a value that the chosen
@@ -270,14 +166,13 @@ module _ {T H W : Type 0} where
   -- the thread took itself out of the queue: at a gate it is due to try the bit, unless it had
   -- found it set since its push; at a condition it is in the condition by the present count
   abbrev pub HasLeft : Object → Known T H W → Known T H W → Type 0
-  HasLeft (Cond c) a b = b ≡ record a
-      { queue = less a.number a.queue; left = less a.number a.left; stand = None; wait = recounted a.count a.wait }
+  HasLeft (Cond c) a b = b ≡ record a {
+    part = record a.part
+        { queue = less a.number a.queue; left = less a.number a.left; stand = None; wait = recounted a.count a.wait };
+  }
   HasLeft _ a b = b ≡ record a {
-    queue = less a.number a.queue;
-    left = less a.number a.left;
-    stand = None;
-    turns =
-        left_turns a.stand a.turns;
+    part = record a.part
+        { queue = less a.number a.queue; left = less a.number a.left; stand = None; turns = left_turns a.stand a.turns };
   }
 
   -- the thread has the bit of no mutex

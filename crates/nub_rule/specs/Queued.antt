@@ -8,7 +8,7 @@ use Rattle.nub_rule.specs.declared.rule.Slot.{Slot}
 use Rattle.nub_rule.specs.declared.view.Kind.TheVariants.{Member}
 use Rattle.nub_rule.specs.declared.view.Part.{Part}
 use Rattle.nub_rule.specs.declared.view.View.{View}
-use Rattle.nub_rule.specs.Known.{Known, changed, part_of}
+use Rattle.nub_rule.specs.Known.{Known}
 use Rattle.nub_rule.specs.Places.{length_at}
 use Rattle.nub_rule.specs.Plays.{Sat, Becomes}
 
@@ -23,15 +23,15 @@ module _ {T H W : Type 0} where
   -- `nowhere` holds
   pub record MayRequeue (rule : State (Slot T) (View T H W) → Type 0) (tells : Step (Slot T) → Sat T H W → ℕ → Sat T H W → Type 0)
       (l : Layout) (k : Known T H W) (o : ℕ) (zs : List ℕ) (nowhere : Type 0) : Type 0 where
-    pub allowed : IsLawful l → (slots id : ℕ) (me : Sat T H W) → me.0.kind ≡ Member → me.0.number ≡ k.number → me.0.part ≡ part_of k
+    pub allowed : IsLawful l → (slots id : ℕ) (me : Sat T H W) → me.0.kind ≡ Member → me.0.number ≡ k.number → me.0.part ≡ k.part
         → Allows rule slots id me (length_at o) (λ _. length zs) (λ _. tells (step slots (length_at o) (length zs) 0 none) me (length zs))
     pub change : ℕ → Part T H → Part T H
     pub recorded : Tells tells o change
-    pub held : (change k.number (part_of k)).held ≡ k.held
-    pub spin : (change k.number (part_of k)).spin ≡ k.spin
-    pub queue : (change k.number (part_of k)).queue ≡ zs
-    pub stand : (change k.number (part_of k)).stand ≡ None → nowhere
+    pub held : (change k.number k.part).held ≡ k.held
+    pub spin : (change k.number k.part).spin ≡ k.spin
+    pub queue : (change k.number k.part).queue ≡ zs
+    pub stand : (change k.number k.part).stand ≡ None → nowhere
 
   -- the thread was changed as the step says
   abbrev pub Requeued : (Step (Slot T) → Sat T H W → ℕ → Sat T H W → Type 0) → ℕ → Known T H W → Known T H W → Type 0
-  Requeued tells o a b = (f : ℕ → Part T H → Part T H) → Tells tells o f → b ≡ changed a (f a.number (part_of a)) a.values
+  Requeued tells o a b = (f : ℕ → Part T H → Part T H) → Tells tells o f → b ≡ record a { part = f a.number a.part }

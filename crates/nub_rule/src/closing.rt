@@ -13,7 +13,7 @@ ghost use Rattle.nub_rule.specs.declared.view.Kind.TheVariants.{Collector};
 ghost use Rattle.nub_rule.specs.Items.{Each};
 ghost use Rattle.atomic_table.specs.Table.{Enters, Joins};
 ghost use Rattle.nub_rule.specs.Rule.{IsKept, opening_view, collecting, both_views, spent_view};
-ghost use Rattle.nub_rule.specs.Known.{part_of, HasNone};
+ghost use Rattle.nub_rule.specs.Known.{HasNone};
 ghost use Rattle.nub_rule.specs.Ends.{Leaves};
 
 use crate::package::{Package, Stored, Thread};
@@ -86,7 +86,7 @@ pub(crate) fn gather<U: Uses>(
     requires room { (all.old.room.items ≡ []) × (1 ≤ thread.number → shared.now.table_id.slots ≤ 192 + vec_capacity all.old.room) }
     ensures of { all.new.seat.table_id ≡ all.old.seat.table_id }
     ensures kind { all.new.seat.me.0.kind ≡ Collector }
-    ensures back { all.new.seat.me.0.back ≡ all.old.seat.me.0.back ++ part_of thread ∷ [] }
+    ensures back { all.new.seat.me.0.back ≡ all.old.seat.me.0.back ++ thread.part ∷ [] }
     ensures entries { map (λ s. s.entries.items) all.new.stored.items
         ≡ map (λ s. s.entries.items) all.old.stored.items ++ thread.entries ∷ [] }
     ensures losses { map (λ s. s.lost) all.new.stored.items ≡ map (λ s. s.lost) all.old.stored.items ++ thread.lost ∷ [] }
@@ -127,7 +127,7 @@ fn gather_all<U: Uses>(
     requires shelf { (stored.items ≡ []) × (length threads.items ≤ vec_capacity stored) }
     ensures of { result.seat.table_id ≡ shared.now.table_id }
     ensures kind { result.seat.me.0.kind ≡ Collector }
-    ensures back { result.seat.me.0.back ≡ map (λ t. part_of t) threads.items }
+    ensures back { result.seat.me.0.back ≡ map (λ t. t.part) threads.items }
     ensures stored { (map (λ s. s.entries.items) result.stored.items ≡ map (λ t. t.entries) threads.items)
         × (map (λ s. s.lost) result.stored.items ≡ map (λ t. t.lost) threads.items) }
     ensures room { (result.room.items ≡ []) × (shared.now.table_id.slots ≤ 192 + vec_capacity result.room) }
@@ -195,7 +195,7 @@ pub fn close_package<U: Uses>(alloc: Global, p: Package<U>, threads: Vec<Thread<
         threads.items }
     requires rest { Each (λ n t. (t.wait ≡ None) × (p.layout.version ≡ Two → t.life ≢ Live)) threads.items }
     ensures values { (length result.values.items ≡ p.layout.mutexes)
-        × Leaves p.layout (U.holds p.world) (map (λ t. part_of t) threads.items) result.values.items }
+        × Leaves p.layout (U.holds p.world) (map (λ t. t.part) threads.items) result.values.items }
     ensures stored { (map (λ s. s.entries.items) result.stored.items ≡ map (λ t. t.entries) threads.items)
         × (map (λ s. s.lost) result.stored.items ≡ map (λ t. t.lost) threads.items) }
 {

@@ -7,7 +7,7 @@ ghost use Rattle.nub_rule.specs.declared.view.Kind.TheVariants.{Collector};
 ghost use Rattle.nub_rule.specs.Ends.{Leaves};
 ghost use Rattle.nub_rule.specs.Forks.{AreAll, MayComeBack, in_order, with_number};
 ghost use Rattle.nub_rule.specs.Items.{Each};
-ghost use Rattle.nub_rule.specs.Known.{Known, part_of};
+ghost use Rattle.nub_rule.specs.Known.{Known};
 
 use crate::closing::{Gathered, Remains, collector, gather, values_of};
 use crate::package::{Package, Stored, Thread};
@@ -84,7 +84,7 @@ fn gather_forked<U: Uses>(
     requires shelf { (stored.items ≡ []) × (threads ≤ vec_capacity stored) }
     ensures of { result.seat.table_id ≡ shared.now.table_id }
     ensures kind { result.seat.me.0.kind ≡ Collector }
-    ensures back { result.seat.me.0.back ≡ map (λ t. part_of t) (in_order threads (ended.items ++ unborn.items)) }
+    ensures back { result.seat.me.0.back ≡ map (λ t. t.part) (in_order threads (ended.items ++ unborn.items)) }
     ensures stored { (map (λ s. s.entries.items) result.stored.items
         ≡ map (λ t. t.entries) (in_order threads (ended.items ++ unborn.items)))
         × (map (λ s. s.lost) result.stored.items ≡ map (λ t. t.lost) (in_order threads (ended.items ++ unborn.items))) }
@@ -114,7 +114,7 @@ pub fn close_forked<U: Uses>(
     requires of { Each (λ _ t. t.table_id ≡ p.table_id) (ended.items ++ unborn.items) }
     requires all { AreAll p.layout.threads (ended.items ++ unborn.items) }
     ensures values { (length result.values.items ≡ p.layout.mutexes)
-        × Leaves p.layout (U.holds p.world) (map (λ t. part_of t) (in_order p.layout.threads (ended.items ++ unborn.items)))
+        × Leaves p.layout (U.holds p.world) (map (λ t. t.part) (in_order p.layout.threads (ended.items ++ unborn.items)))
         result.values.items }
     ensures stored { (map (λ s. s.entries.items) result.stored.items
         ≡ map (λ t. t.entries) (in_order p.layout.threads (ended.items ++ unborn.items)))

@@ -26,7 +26,10 @@ pub fn read_alert<U: Uses>(p: &Package<U>, me: &mut Thread<U>) -> u64
     ensures one { result ≢ 0 → result ≡ 1 }
     ensures seen { me.old.alerted ≡ true → result ≡ 1 }
     ensures none { result ≡ 0 → me.new ≡ me.old }
-    ensures alerted { result ≢ 0 → me.new ≡ record me.old { alerted = true; stand = alerted_stand me.old.stand } }
+    ensures alerted { result ≢ 0 → me.new ≡ record me.old {
+      part = record me.old.part
+          { alerted = true; stand = alerted_stand me.old.stand };
+    } }
 {
     load::<ReadAlert, U>(&p.table, &mut me.seat, alert_word(me.number))
 }
@@ -38,7 +41,7 @@ pub fn or_alert<U: Uses>(p: &Package<U>, me: &mut Thread<U>, t: ThreadId) -> u64
     requires outside { me.old.wait ≡ None }
     requires pen { MayTell p.now.traced me.old.life me.old.pen }
     ensures event { Makes (alert_event me.old.number t.0) me.old me.new }
-    ensures alerted { me.new ≡ record (learnt me.old me.new) { pen = made me.old.pen } }
+    ensures alerted { me.new ≡ record me.old { part = record (learnt me.old.part me.new.part) { pen = made me.old.pen } } }
 {
     // The word first, then the unparking: a thread that wakes up reads the word, and would park
     // again if it weren't set yet.
@@ -55,7 +58,7 @@ pub fn swap_alert<U: Uses>(p: &Package<U>, me: &mut Thread<U>) -> u64
     ensures flag { (result ≡ 0) ⊎ (result ≡ 1) }
     ensures seen { me.old.alerted ≡ true → result ≡ 1 }
     ensures event { Makes (test_alert_event me.old.number (eqb result 1)) me.old me.new }
-    ensures cleared { me.new ≡ record (learnt me.old me.new) { alerted = false; pen = made me.old.pen } }
+    ensures cleared { me.new ≡ record me.old { part = record (learnt me.old.part me.new.part) { alerted = false; pen = made me.old.pen } } }
 {
     swap::<SwapAlert, U>(&p.table, &mut me.seat, alert_word(me.number), 0)
 }
@@ -70,7 +73,7 @@ pub fn swap_alert_in_p<U: Uses>(p: &Package<U>, me: &mut Thread<U>, s: SemId) ->
     requires pen { MayTell p.now.traced me.old.life me.old.pen }
     ensures found { result ≡ 1 }
     ensures event { Makes (alert_p_raise_event me.old.number s.0) me.old me.new }
-    ensures cleared { me.new ≡ record (learnt me.old me.new) { alerted = false; pen = made me.old.pen } }
+    ensures cleared { me.new ≡ record me.old { part = record (learnt me.old.part me.new.part) { alerted = false; pen = made me.old.pen } } }
 {
     // An alert word is 0 or 1, so this leaves 0, as a swap would. No word says which semaphore it
     // is: the mask says it to the rule.
@@ -100,7 +103,10 @@ pub fn swap_alert_in_raise<U: Uses>(
     requires pen { MayTell p.now.traced me.old.life me.old.pen }
     ensures found { result ≡ 1 }
     ensures event { Makes (alert_raise_event me.old.number m.0 c.0) me.old me.new }
-    ensures raised { me.new ≡ record (learnt me.old me.new) { wait = None; alerted = false; pen = made me.old.pen } }
+    ensures raised { me.new ≡ record me.old {
+      part = record (learnt me.old.part me.new.part)
+          { wait = None; alerted = false; pen = made me.old.pen };
+    } }
 {
     let _names = (m, c);
     swap::<SwapAlertInRaise, U>(&p.table, &mut me.seat, alert_word(me.number), 0)
@@ -116,10 +122,12 @@ pub fn leave_sem_queue<U: Uses>(p: &Package<U>, me: &mut Thread<U>, s: SemId) ->
     requires stands { StandsAs (λ x. (x.at ≡ sem_object s.0) × (IsClear x.stage ⊎ (me.old.alerted ≡ true))) me.old }
     ensures there { result ≡ mem me.old.number me.old.queue }
     ensures out { result ≡ true → me.new ≡ record me.old {
-      queue = less me.old.number me.old.queue;
-      left = less me.old.number me.old.left;
-      stand = None;
-      turns = left_turns me.old.stand me.old.turns;
+      part = record me.old.part {
+        queue = less me.old.number me.old.queue;
+        left = less me.old.number me.old.left;
+        stand = None;
+        turns = left_turns me.old.stand me.old.turns;
+      };
     } }
     ensures same { result ≡ false → me.new ≡ me.old }
 {

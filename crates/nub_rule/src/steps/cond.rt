@@ -35,7 +35,10 @@ pub fn load_count<U: Uses>(p: &Package<U>, me: &mut Thread<U>, m: MutexId, c: Co
     requires raised { me.old.raised ≡ Some c.0 }
     requires pen { MayTell p.now.traced me.old.life me.old.pen }
     ensures event { Makes (enqueue_event false me.old.number m.0 c.0) me.old me.new }
-    ensures begun { me.new ≡ record (learnt me.old me.new) { wait = Some (begun_wait false m.0 c.0 result); pen = made me.old.pen } }
+    ensures begun { me.new ≡ record me.old {
+      part = record (learnt me.old.part me.new.part)
+          { wait = Some (begun_wait false m.0 c.0 result); pen = made me.old.pen };
+    } }
 {
     prove!(m.0 < p.layout.mutexes);
     bring(&mut me.hand, &mut me.seat, VALUES + m.0 as u16);
@@ -59,7 +62,10 @@ pub fn load_count_alertable<U: Uses>(
     requires raised { me.old.raised ≡ Some c.0 }
     requires pen { MayTell p.now.traced me.old.life me.old.pen }
     ensures event { Makes (enqueue_event true me.old.number m.0 c.0) me.old me.new }
-    ensures begun { me.new ≡ record (learnt me.old me.new) { wait = Some (begun_wait true m.0 c.0 result); pen = made me.old.pen } }
+    ensures begun { me.new ≡ record me.old {
+      part = record (learnt me.old.part me.new.part)
+          { wait = Some (begun_wait true m.0 c.0 result); pen = made me.old.pen };
+    } }
 {
     prove!(m.0 < p.layout.mutexes);
     bring(&mut me.hand, &mut me.seat, VALUES + m.0 as u16);
@@ -94,11 +100,9 @@ pub fn advance_signal<U: Uses>(p: &Package<U>, me: &mut Thread<U>, c: CondId) ->
     ensures left { result.1 ≡ set_of (tail_of me.old.queue) }
     ensures distinct { Distinct me.old.queue }
     ensures event { Makes (event me.old.number (signal_action c.0 (tail_of me.old.queue))) me.old me.new }
-    ensures advanced { me.new ≡ record (learnt me.old me.new) {
-      left = tail_of me.old.queue;
-      count = me.old.count + 1;
-      calling = None;
-      pen = made me.old.pen;
+    ensures advanced { me.new ≡ record me.old {
+      part = record (learnt me.old.part me.new.part)
+          { left = tail_of me.old.queue; count = me.old.count + 1; calling = None; pen = made me.old.pen };
     } }
 {
     let o = CONDITIONS + c.0 as usize;
@@ -119,8 +123,10 @@ pub fn advance_broadcast<U: Uses>(p: &Package<U>, me: &mut Thread<U>, c: CondId)
     requires pen { MayTell p.now.traced me.old.life me.old.pen }
     ensures count { result ≡ me.old.count }
     ensures event { Makes (event me.old.number (broadcast_action c.0 [])) me.old me.new }
-    ensures advanced { me.new ≡ record (learnt me.old me.new)
-        { left = []; count = me.old.count + 1; calling = None; pen = made me.old.pen } }
+    ensures advanced { me.new ≡ record me.old {
+      part = record (learnt me.old.part me.new.part)
+          { left = []; count = me.old.count + 1; calling = None; pen = made me.old.pen };
+    } }
 {
     fetch_add::<AdvanceBroadcast, U>(&p.table, &mut me.seat, count_word(c), 1)
 }
@@ -134,7 +140,7 @@ pub fn compare_count<U: Uses>(p: &Package<U>, me: &mut Thread<U>, c: CondId, cou
     requires waits { (x : Wait) × (me.old.wait ≡ Some x) × (x.cond.0 ≡ c.0) × (x.member ≡ Some count) }
     ensures count { result ≡ me.old.count }
     ensures stands { result ≡ count → me.new ≡ me.old }
-    ensures moved { result ≢ count → me.new ≡ record me.old { wait = unread me.old.wait } }
+    ensures moved { result ≢ count → me.new ≡ record me.old { part = record me.old.part { wait = unread me.old.wait } } }
 {
     let _count = count;
     load::<CompareCount, U>(&p.table, &mut me.seat, count_word(c))
@@ -151,10 +157,12 @@ pub fn leave_cond_queue<U: Uses>(p: &Package<U>, me: &mut Thread<U>, c: CondId) 
     requires waits { (x : Wait) × (me.old.wait ≡ Some x) × (x.cond.0 ≡ c.0) }
     ensures there { result ≡ mem me.old.number me.old.queue }
     ensures out { result ≡ true → me.new ≡ record me.old {
-      queue = less me.old.number me.old.queue;
-      left = less me.old.number me.old.left;
-      stand = None;
-      wait = recounted me.old.count me.old.wait;
+      part = record me.old.part {
+        queue = less me.old.number me.old.queue;
+        left = less me.old.number me.old.left;
+        stand = None;
+        wait = recounted me.old.count me.old.wait;
+      };
     } }
     ensures same { result ≡ false → me.new ≡ me.old }
 {

@@ -4,7 +4,7 @@ ghost use Rattle.std.specs.Prelude.{◌≡◌, ◌≢◌, ◌<◌, None};
 ghost use Rattle.larch_actions.specs.declared.event.Life.TheVariants.{Ended};
 ghost use Rattle.larch_actions.specs.declared.event.Version.TheVariants.{Two};
 ghost use Rattle.nub_rule.specs.declared.view.Child.TheVariants.{No, May, Forked};
-ghost use Rattle.nub_rule.specs.Known.{Makes, learnt, part_of};
+ghost use Rattle.nub_rule.specs.Known.{Makes, learnt};
 ghost use Rattle.nub_rule.specs.Parts.{HasNothing, MayTell, made};
 ghost use Rattle.nub_rule.specs.Places.{most_threads};
 ghost use Rattle.nub_rule.specs.Plays.{end_event, fork_event, join_event};
@@ -26,7 +26,11 @@ pub fn fork_life<U: Uses>(p: &Package<U>, me: &mut Thread<U>, who: ThreadId)
     requires pen { MayTell p.now.traced me.old.life me.old.pen }
     ensures apart { who.0 ≢ me.old.number }
     ensures event { Makes (fork_event me.old.number who.0) me.old me.new }
-    ensures forked { me.new ≡ record (learnt me.old me.new) { pen = made me.old.pen; child = Forked who.0 me.new.seen } }
+    ensures forked { me.new ≡ record me.old {
+      part = record (learnt me.old.part me.new.part)
+          { pen = made me.old.pen };
+      child = Forked who.0 me.new.seen;
+    } }
 {
     store::<ForkLife, U>(&p.table, &mut me.seat, life_word(who.0), 1);
 }
@@ -36,11 +40,11 @@ pub fn fork_life<U: Uses>(p: &Package<U>, me: &mut Thread<U>, who: ThreadId)
 pub fn end_life<U: Uses>(p: &Package<U>, me: &mut Thread<U>)
     requires of { me.old.table_id ≡ p.now.table_id }
     requires version { p.now.layout.version ≡ Two }
-    requires nothing { HasNothing (part_of me.old) }
+    requires nothing { HasNothing me.old.part }
     requires childless { me.old.child ≡ No }
     requires pen { MayTell p.now.traced me.old.life me.old.pen }
     ensures event { Makes (end_event me.old.number) me.old me.new }
-    ensures ended { me.new ≡ record (learnt me.old me.new) { pen = made me.old.pen; life = Ended } }
+    ensures ended { me.new ≡ record me.old { part = record (learnt me.old.part me.new.part) { pen = made me.old.pen; life = Ended } } }
 {
     store::<EndLife, U>(&p.table, &mut me.seat, life_word(me.number), 2);
 }
@@ -53,7 +57,7 @@ pub fn read_life<U: Uses>(p: &Package<U>, me: &mut Thread<U>, who: ThreadId) -> 
     requires outside { me.old.wait ≡ None }
     requires pen { MayTell p.now.traced me.old.life me.old.pen }
     ensures event { result ≡ 2 → Makes (join_event me.old.number who.0) me.old me.new }
-    ensures joined { result ≡ 2 → me.new ≡ record (learnt me.old me.new) { pen = made me.old.pen } }
+    ensures joined { result ≡ 2 → me.new ≡ record me.old { part = record (learnt me.old.part me.new.part) { pen = made me.old.pen } } }
     ensures waits { result ≢ 2 → me.new ≡ me.old }
 {
     load::<ReadLife, U>(&p.table, &mut me.seat, life_word(who.0))

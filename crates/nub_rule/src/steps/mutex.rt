@@ -26,16 +26,21 @@ pub fn try_bit<U: Uses>(p: &Package<U>, me: &mut Thread<U>, m: MutexId, e: Event
     requires outside { (me.old.spin ≡ None) × (me.old.stand ≡ None) }
     requires may { MayTake me.old.number m.0 me.old.wait e }
     requires pen { MayTell p.now.traced me.old.life me.old.pen }
-    ensures lost { result ≢ 0 → me.new ≡ record me.old { failed = m.0 ∷ me.old.failed; turns = without m.0 me.old.turns } }
+    ensures lost { result ≢ 0 → me.new ≡ record me.old {
+      part = record me.old.part
+          { failed = m.0 ∷ me.old.failed; turns = without m.0 me.old.turns };
+    } }
     ensures event { result ≡ 0 → Makes e me.old me.new }
     ensures lacked { result ≡ 0 → get_elem? me.old.held m.0 ≡ some None }
     ensures won { result ≡ 0 → (x : U.Value) × Holds me.new m.0 x × IsIn me.new m.0 x
-        × (me.new ≡ record (learnt me.old me.new) {
-          held = slice_set me.old.held m.0 (Some x);
-          wait = None;
-          failed = without m.0 me.old.failed;
-          turns = without m.0 me.old.turns;
-          pen = made me.old.pen;
+        × (me.new ≡ record me.old {
+          part = record (learnt me.old.part me.new.part) {
+            held = slice_set me.old.held m.0 (Some x);
+            wait = None;
+            failed = without m.0 me.old.failed;
+            turns = without m.0 me.old.turns;
+            pen = made me.old.pen;
+          };
           values = slice_set me.old.values m.0 (Some (Some x));
         })
         × ((w : U.World) (s : U.Share) → me.old.world ≡ Some w → me.old.share ≡ Some s → U.fits w m.0 x me.old.number s) }
@@ -58,11 +63,13 @@ pub fn clear_bit<U: Uses, C: Change<U>>(p: &Package<U>, me: &mut Thread<U>, m: M
     requires pen { MayTell p.now.traced me.old.life me.old.pen }
     ensures found { result ≡ 1 }
     ensures event { Makes (release_event me.old.number m.0) me.old me.new }
-    ensures gone { me.new ≡ record (learnt me.old me.new) {
-      held = slice_set me.old.held m.0 None;
-      share = me.new.share;
-      cleared = m.0 ∷ me.old.cleared;
-      pen = made me.old.pen;
+    ensures gone { me.new ≡ record me.old {
+      part = record (learnt me.old.part me.new.part) {
+        held = slice_set me.old.held m.0 None;
+        share = me.new.share;
+        cleared = m.0 ∷ me.old.cleared;
+        pen = made me.old.pen;
+      };
       values = slice_set me.old.values m.0 None;
     } }
     ensures share { PicksShare C.after m.0 me.old me.new }
@@ -88,10 +95,12 @@ pub fn clear_bit_in_wait<U: Uses, C: Change<U>>(
     requires may { MayGive U.allows C.after m.0 me.old }
     ensures found { result ≡ 1 }
     ensures gone { me.new ≡ record me.old {
-      held = slice_set me.old.held m.0 None;
-      share = me.new.share;
-      wait = opened me.old.wait;
-      cleared = m.0 ∷ me.old.cleared;
+      part = record me.old.part {
+        held = slice_set me.old.held m.0 None;
+        share = me.new.share;
+        wait = opened me.old.wait;
+        cleared = m.0 ∷ me.old.cleared;
+      };
       values = slice_set me.old.values m.0 None;
     } }
     ensures share { PicksShare C.after m.0 me.old me.new }
@@ -111,14 +120,19 @@ pub fn take_bit_quiet<U: Uses>(p: &Package<U>, me: &mut Thread<U>, m: MutexId) -
     requires outside { (me.old.spin ≡ None) × (me.old.stand ≡ None) }
     requires waits { (x : Wait) × (me.old.wait ≡ Some x) × (x.mutex.0 ≡ m.0) × (x.alertable ≡ true) × (x.bit ≡ Open) }
     requires alerted { me.old.alerted ≡ true }
-    ensures lost { result ≢ 0 → me.new ≡ record me.old { failed = m.0 ∷ me.old.failed; turns = without m.0 me.old.turns } }
+    ensures lost { result ≢ 0 → me.new ≡ record me.old {
+      part = record me.old.part
+          { failed = m.0 ∷ me.old.failed; turns = without m.0 me.old.turns };
+    } }
     ensures lacked { result ≡ 0 → get_elem? me.old.held m.0 ≡ some None }
     ensures won { result ≡ 0 → (x : U.Value) × Holds me.new m.0 x × IsIn me.new m.0 x
         × (me.new ≡ record me.old {
-          held = slice_set me.old.held m.0 (Some x);
-          wait = quieted me.old.wait;
-          failed = without m.0 me.old.failed;
-          turns = without m.0 me.old.turns;
+          part = record me.old.part {
+            held = slice_set me.old.held m.0 (Some x);
+            wait = quieted me.old.wait;
+            failed = without m.0 me.old.failed;
+            turns = without m.0 me.old.turns;
+          };
           values = slice_set me.old.values m.0 (Some (Some x));
         })
         × ((w : U.World) (s : U.Share) → me.old.world ≡ Some w → me.old.share ≡ Some s → U.fits w m.0 x me.old.number s) }

@@ -17,7 +17,7 @@ pub fn take_pen<U: Uses>(p: &Package<U>, me: &mut Thread<U>) -> u64
     requires traced { p.now.traced ≡ true }
     requires out { me.old.pen ≡ No }
     ensures lost { result ≢ 0 → (result ≡ 1) × (me.new ≡ me.old) }
-    ensures won { result ≡ 0 → me.new ≡ record me.old { pen = Taken } }
+    ensures won { result ≡ 0 → me.new ≡ record me.old { part = record me.old.part { pen = Taken } } }
 {
     compare_exchange::<TakePen, U>(&p.table, &mut me.seat, PEN, 0, 1)
 }
@@ -26,7 +26,7 @@ pub fn take_pen<U: Uses>(p: &Package<U>, me: &mut Thread<U>) -> u64
 pub fn read_number<U: Uses>(p: &Package<U>, me: &mut Thread<U>) -> u64
     requires of { me.old.table_id ≡ p.now.table_id }
     requires taken { me.old.pen ≡ Taken }
-    ensures { me.new ≡ record me.old { pen = Read result; next = result } }
+    ensures { me.new ≡ record me.old { part = record me.old.part { pen = Read result }; next = result } }
 {
     let found = load::<ReadNumber, U>(&p.table, &mut me.seat, NUMBER);
     me.next = found;
@@ -37,7 +37,7 @@ pub fn read_number<U: Uses>(p: &Package<U>, me: &mut Thread<U>) -> u64
 pub fn write_number<U: Uses>(p: &Package<U>, me: &mut Thread<U>, number: u64)
     requires of { me.old.table_id ≡ p.now.table_id }
     requires made { (k : ℕ) × (me.old.pen ≡ Made k) × (number ≡ k + 1) }
-    ensures { me.new ≡ record me.old { pen = Written } }
+    ensures { me.new ≡ record me.old { part = record me.old.part { pen = Written } } }
 {
     store::<WriteNumber, U>(&p.table, &mut me.seat, NUMBER, number);
 }
@@ -47,7 +47,7 @@ pub fn give_pen<U: Uses>(p: &Package<U>, me: &mut Thread<U>) -> u64
     requires of { me.old.table_id ≡ p.now.table_id }
     requires may { MayGivePen me.old.pen }
     ensures found { result ≡ 1 }
-    ensures out { me.new ≡ record me.old { pen = No } }
+    ensures out { me.new ≡ record me.old { part = record me.old.part { pen = No } } }
 {
     swap::<GivePen, U>(&p.table, &mut me.seat, PEN, 0)
 }

@@ -22,11 +22,11 @@ pub fn read_length<U: Uses>(p: &Package<U>, me: &mut Thread<U>, at: Object) -> u
     requires of { me.old.table_id ≡ p.now.table_id }
     requires named { HasObject p.now.layout at }
     ensures empty { result ≡ 0 → me.new ≡ record me.old {
-      cleared = without (object_of at) me.old.cleared;
-      looked = without (object_of at) me.old.looked;
+      part = record me.old.part
+          { cleared = without (object_of at) me.old.cleared; looked = without (object_of at) me.old.looked };
     } }
     ensures seen { result ≢ 0 → mem (object_of at) me.old.cleared ≡ true
-        → me.new ≡ record me.old { looked = object_of at ∷ me.old.looked } }
+        → me.new ≡ record me.old { part = record me.old.part { looked = object_of at ∷ me.old.looked } } }
     ensures same { result ≢ 0 → mem (object_of at) me.old.cleared ≡ false → me.new ≡ me.old }
 {
     load::<ReadLength, U>(&p.table, &mut me.seat, at.length_word())
@@ -40,15 +40,19 @@ pub fn push_queue<U: Uses>(p: &Package<U>, me: &mut Thread<U>, at: Object)
     requires outside { me.old.stand ≡ None }
     requires may { MayPush at me.old }
     ensures gate { IsGate at → me.new ≡ record me.old {
-      queue = me.old.queue ++ me.old.number ∷ [];
-      left = me.old.left ++ me.old.number ∷ [];
-      stand = Some record { at = object_of at; stage = Pushed };
+      part = record me.old.part {
+        queue = me.old.queue ++ me.old.number ∷ [];
+        left = me.old.left ++ me.old.number ∷ [];
+        stand = Some record { at = object_of at; stage = Pushed };
+      };
     } }
     ensures cond { IsCond at → me.new ≡ record me.old {
-      queue = me.old.queue ++ me.old.number ∷ [];
-      left = me.old.left ++ me.old.number ∷ [];
-      stand = Some record { at = object_of at; stage = Tested };
-      wait = unread me.old.wait;
+      part = record me.old.part {
+        queue = me.old.queue ++ me.old.number ∷ [];
+        left = me.old.left ++ me.old.number ∷ [];
+        stand = Some record { at = object_of at; stage = Tested };
+        wait = unread me.old.wait;
+      };
     } }
 {
     match at {
@@ -65,8 +69,8 @@ pub fn test_again<U: Uses>(p: &Package<U>, me: &mut Thread<U>, at: Object) -> u6
     requires named { HasObject p.now.layout at }
     requires inside { me.old.spin ≡ Some (object_of at) }
     requires untested { StandsAs (λ s. (s.at ≡ object_of at) × IsUntested s.stage) me.old }
-    ensures clear { result ≡ 0 → me.new ≡ record me.old { stand = staged Clear me.old.stand } }
-    ensures tested { result ≢ 0 → me.new ≡ record me.old { stand = staged Tested me.old.stand } }
+    ensures clear { result ≡ 0 → me.new ≡ record me.old { part = record me.old.part { stand = staged Clear me.old.stand } } }
+    ensures tested { result ≢ 0 → me.new ≡ record me.old { part = record me.old.part { stand = staged Tested me.old.stand } } }
     ensures low { IsGate at → object_of at < 128 }
 {
     load::<TestAgain, U>(&p.table, &mut me.seat, at.bit_word())
@@ -82,10 +86,12 @@ pub fn take_out<U: Uses>(p: &Package<U>, me: &mut Thread<U>, at: Object) -> bool
     requires clear { StandsAs (λ s. (s.at ≡ object_of at) × IsClear s.stage) me.old }
     ensures there { result ≡ mem me.old.number me.old.queue }
     ensures out { result ≡ true → me.new ≡ record me.old {
-      queue = less me.old.number me.old.queue;
-      left = less me.old.number me.old.left;
-      stand = None;
-      turns = object_of at ∷ me.old.turns;
+      part = record me.old.part {
+        queue = less me.old.number me.old.queue;
+        left = less me.old.number me.old.left;
+        stand = None;
+        turns = object_of at ∷ me.old.turns;
+      };
     } }
     ensures same { result ≡ false → me.new ≡ me.old }
 {
@@ -104,13 +110,15 @@ pub fn pop_queue<U: Uses>(p: &Package<U>, me: &mut Thread<U>, at: Object) -> Opt
     ensures first { (t : ThreadId) → result ≡ Some t → (me.old.queue ≡ t.0 ∷ tail_of me.old.queue)
         × (me.new.owed ≡ me.old.owed ++ t.0 ∷ []) }
     ensures gate { IsGate at → me.new ≡ record me.old {
-      queue = tail_of me.old.queue;
-      left = tail_of me.old.left;
-      owed = me.new.owed;
-      cleared = without (object_of at) me.old.cleared;
-      looked = without (object_of at) me.old.looked;
+      part = record me.old.part {
+        queue = tail_of me.old.queue;
+        left = tail_of me.old.left;
+        owed = me.new.owed;
+        cleared = without (object_of at) me.old.cleared;
+        looked = without (object_of at) me.old.looked;
+      };
     } }
-    ensures cond { IsCond at → me.new ≡ record me.old { queue = tail_of me.old.queue; owed = me.new.owed } }
+    ensures cond { IsCond at → me.new ≡ record me.old { part = record me.old.part { queue = tail_of me.old.queue; owed = me.new.owed } } }
 {
     match at {
         Object::Mutex(_) | Object::Sem(_) => pop::<PopGate, U>(p, me, at),

@@ -22,7 +22,7 @@ pub fn set_ready<U: Uses>(p: &Package<U>, me: &mut Thread<U>, t: ThreadId) -> u6
     requires owed { mem t.0 me.old.owed ≡ true }
     requires named { t.0 < most_threads }
     ensures found { result ≡ 0 }
-    ensures owes { me.new ≡ record me.old { owed = without t.0 me.old.owed } }
+    ensures owes { me.new ≡ record me.old { part = record me.old.part { owed = without t.0 me.old.owed } } }
 {
     swap::<SetReady, U>(&p.table, &mut me.seat, ready_word(t.0), 1)
 }
@@ -33,8 +33,8 @@ pub fn read_ready<U: Uses>(p: &Package<U>, me: &mut Thread<U>) -> u64
     requires outside { me.old.spin ≡ None }
     requires tested { StandsAs (λ s. HasTested s.stage) me.old }
     requires looked { me.old.cleared ≡ [] }
-    ensures asleep { result ≡ 0 → me.new ≡ record me.old { stand = staged Asleep me.old.stand } }
-    ensures found { result ≢ 0 → me.new ≡ record me.old { stand = staged Found me.old.stand } }
+    ensures asleep { result ≡ 0 → me.new ≡ record me.old { part = record me.old.part { stand = staged Asleep me.old.stand } } }
+    ensures found { result ≢ 0 → me.new ≡ record me.old { part = record me.old.part { stand = staged Found me.old.stand } } }
     ensures one { result ≢ 0 → result ≡ 1 }
 {
     load::<ReadReady, U>(&p.table, &mut me.seat, ready_word(me.number))
@@ -47,10 +47,13 @@ pub fn clear_ready<U: Uses>(p: &Package<U>, me: &mut Thread<U>) -> u64
     requires ready { StandsAs (λ s. IsFound s.stage) me.old }
     ensures found { result ≡ 1 }
     ensures is_new { (s : Stand) → me.old.stand ≡ Some s → s.at < 128 → me.new ≡ record me.old {
-      stand = None;
-      turns = s.at ∷ me.old.turns;
+      part = record me.old.part
+          { stand = None; turns = s.at ∷ me.old.turns };
     } }
-    ensures at_cond { (s : Stand) → me.old.stand ≡ Some s → 128 ≤ s.at → me.new ≡ record me.old { stand = None } }
+    ensures at_cond { (s : Stand) → me.old.stand ≡ Some s → 128 ≤ s.at → me.new ≡ record me.old {
+      part = record me.old.part
+          { stand = None };
+    } }
 {
     swap::<ClearReady, U>(&p.table, &mut me.seat, ready_word(me.number), 0)
 }

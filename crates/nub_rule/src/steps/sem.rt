@@ -22,14 +22,13 @@ pub fn try_p<U: Uses>(p: &Package<U>, me: &mut Thread<U>, s: SemId, e: Event) ->
     requires may { (me.old.wait ≡ None) × MayTakeSem me.old.number s.0 e }
     requires pen { MayTell p.now.traced me.old.life me.old.pen }
     ensures lost { result ≢ 0 → me.new ≡ record me.old {
-      failed = sem_object s.0 ∷ me.old.failed;
-      turns = without (sem_object s.0) me.old.turns;
+      part = record me.old.part
+          { failed = sem_object s.0 ∷ me.old.failed; turns = without (sem_object s.0) me.old.turns };
     } }
     ensures event { result ≡ 0 → Makes e me.old me.new }
-    ensures won { result ≡ 0 → me.new ≡ record (learnt me.old me.new) {
-      failed = without (sem_object s.0) me.old.failed;
-      turns = without (sem_object s.0) me.old.turns;
-      pen = made me.old.pen;
+    ensures won { result ≡ 0 → me.new ≡ record me.old {
+      part = record (learnt me.old.part me.new.part)
+          { failed = without (sem_object s.0) me.old.failed; turns = without (sem_object s.0) me.old.turns; pen = made me.old.pen };
     } }
 {
     let bit = semaphore_bit(s);
@@ -55,7 +54,10 @@ pub fn clear_sem<U: Uses>(p: &Package<U>, me: &mut Thread<U>, s: SemId) -> u64
     requires pen { MayTell p.now.traced me.old.life me.old.pen }
     ensures found { (result ≡ 0) ⊎ (result ≡ 1) }
     ensures event { Makes (v_event me.old.number s.0) me.old me.new }
-    ensures cleared { me.new ≡ record (learnt me.old me.new) { cleared = sem_object s.0 ∷ me.old.cleared; pen = made me.old.pen } }
+    ensures cleared { me.new ≡ record me.old {
+      part = record (learnt me.old.part me.new.part)
+          { cleared = sem_object s.0 ∷ me.old.cleared; pen = made me.old.pen };
+    } }
 {
     swap::<ClearSem, U>(&p.table, &mut me.seat, semaphore_bit(s), 0)
 }

@@ -25,12 +25,14 @@ pub fn take_spin<U: Uses>(p: &Package<U>, me: &mut Thread<U>, at: Object, why: W
     requires reason { HasReason at me.old why }
     ensures lost { result ≢ 0 → (result ≡ 1) × (me.new ≡ me.old) }
     ensures won { result ≡ 0 → me.new ≡ record me.old {
-      spin = Some (object_of at);
-      queue = me.new.queue;
-      owed = [];
-      left = me.new.queue;
-      count = me.new.count;
-      failed = without (object_of at) me.old.failed;
+      part = record me.old.part {
+        spin = Some (object_of at);
+        queue = me.new.queue;
+        owed = [];
+        left = me.new.queue;
+        count = me.new.count;
+        failed = without (object_of at) me.old.failed;
+      };
     } }
     ensures small { result ≡ 0 → Small most_threads me.new.queue }
     ensures room { result ≡ 0 → me.old.stand ≡ None → length me.new.queue < most_threads }
@@ -52,7 +54,7 @@ pub fn give_spin<U: Uses>(p: &Package<U>, me: &mut Thread<U>, at: Object) -> u64
     requires owes_none { me.old.owed ≡ [] }
     requires even { me.old.left ≡ me.old.queue }
     ensures found { result ≡ 1 }
-    ensures outside { me.new ≡ record me.old { spin = None; queue = []; left = [] } }
+    ensures outside { me.new ≡ record me.old { part = record me.old.part { spin = None; queue = []; left = [] } } }
 {
     let o = at.number();
     bring(&mut me.hand, &mut me.seat, o as u16);

@@ -22,7 +22,7 @@ pub fn raise_waits<U: Uses>(p: &Package<U>, me: &mut Thread<U>, c: CondId) -> u6
     requires named { c.0 < p.now.layout.conditions }
     requires live { me.old.life ≡ Live }
     requires none { me.old.raised ≡ None }
-    ensures { me.new ≡ record me.old { raised = Some c.0 } }
+    ensures { me.new ≡ record me.old { part = record me.old.part { raised = Some c.0 } } }
 {
     fetch_add::<RaiseWaits, U>(&p.table, &mut me.seat, waits_word(c), 1)
 }
@@ -36,7 +36,7 @@ pub fn lower_waits<U: Uses>(p: &Package<U>, me: &mut Thread<U>, c: CondId) -> u6
     requires raised { me.old.raised ≡ Some c.0 }
     requires out { (x : Wait) → me.old.wait ≡ Some x → x.member ≡ None }
     requires outside { me.old.stand ≡ None }
-    ensures { me.new ≡ record me.old { raised = None } }
+    ensures { me.new ≡ record me.old { part = record me.old.part { raised = None } } }
 {
     fetch_sub::<LowerWaits, U>(&p.table, &mut me.seat, waits_word(c), 1)
 }
@@ -50,8 +50,8 @@ pub fn read_waits_signal<U: Uses>(p: &Package<U>, me: &mut Thread<U>, c: CondId)
     requires outside { me.old.wait ≡ None }
     requires pen { MayTell p.now.traced me.old.life me.old.pen }
     ensures event { result ≡ 0 → Makes (event me.old.number (signal_action c.0 [])) me.old me.new }
-    ensures quiet { result ≡ 0 → me.new ≡ record (learnt me.old me.new) { pen = made me.old.pen } }
-    ensures calls { result ≢ 0 → me.new ≡ record me.old { calling = Some c.0 } }
+    ensures quiet { result ≡ 0 → me.new ≡ record me.old { part = record (learnt me.old.part me.new.part) { pen = made me.old.pen } } }
+    ensures calls { result ≢ 0 → me.new ≡ record me.old { part = record me.old.part { calling = Some c.0 } } }
 {
     load::<ReadWaitsSignal, U>(&p.table, &mut me.seat, waits_word(c))
 }
@@ -65,8 +65,8 @@ pub fn read_waits_broadcast<U: Uses>(p: &Package<U>, me: &mut Thread<U>, c: Cond
     requires outside { me.old.wait ≡ None }
     requires pen { MayTell p.now.traced me.old.life me.old.pen }
     ensures event { result ≡ 0 → Makes (event me.old.number (broadcast_action c.0 [])) me.old me.new }
-    ensures quiet { result ≡ 0 → me.new ≡ record (learnt me.old me.new) { pen = made me.old.pen } }
-    ensures calls { result ≢ 0 → me.new ≡ record me.old { calling = Some c.0 } }
+    ensures quiet { result ≡ 0 → me.new ≡ record me.old { part = record (learnt me.old.part me.new.part) { pen = made me.old.pen } } }
+    ensures calls { result ≢ 0 → me.new ≡ record me.old { part = record me.old.part { calling = Some c.0 } } }
 {
     load::<ReadWaitsBroadcast, U>(&p.table, &mut me.seat, waits_word(c))
 }

@@ -1,9 +1,11 @@
 //! Unparking the threads that were made ready: outside the Nub, and after the release of a mutex
 //! without which they can't go on.
 //!
-//! Nothing here is an atomic step of the rule, and no clause speaks of it: an unparked thread reads
-//! its ready word, which decides.
+//! Nothing here is an atomic step of the rule, and no clause says that a thread is unparked: an
+//! unparked thread reads its ready word or the life word that it waits for, which decides.
 ghost use Rattle.std.specs.Prelude.{◌≡◌};
+ghost use Rattle.larch_actions.specs.declared.event.Life.TheVariants.{Ended};
+ghost use Rattle.nub_rule.specs.declared.view.Pen.TheVariants.{No};
 
 use crate::package::{Package, Thread};
 use crate::rule::Queue;
@@ -36,8 +38,14 @@ pub fn unpark<U: Uses>(p: &Package<U>, t: ThreadId) {
     }
 }
 
-/// Unparks every thread.
-pub fn unpark_all<U: Uses>(p: &Package<U>) {
+/// Unparks every thread, after the end of this one: a thread that waits for it reads the life word
+/// again, in a traced package with the pen. So the word says so already, and the pen was given back.
+pub fn unpark_all<U: Uses>(p: &Package<U>, me: &Thread<U>)
+    requires of { me.now.table_id ≡ p.now.table_id }
+    requires ended { me.now.life ≡ Ended }
+    requires out { me.now.pen ≡ No }
+{
+    let _me = me;
     for waker in &p.unparkers {
         waker.unparker.unpark();
     }

@@ -5,6 +5,6 @@ use Rattle.alert_wait.proofs.sem.take_or_raise.Given as goal
 
 abbrev pub invariant-loop : goal.invariant-loop
 invariant-loop g l = record {
-  same : l.me ≡ record l.initial.me { count = l.me.count; failed = l.me.failed; turns = l.me.turns; alerted = l.me.alerted; next = l.me.next };
+  same : l.me ≡ record l.initial.me { part = record l.initial.me.part { count = l.me.count; failed = l.me.failed; turns = l.me.turns; alerted = l.me.alerted }; next = l.me.next };
   turns : without (sem_object l.s.0) l.me.turns ≡ [];
 }

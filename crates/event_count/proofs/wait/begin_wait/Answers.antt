@@ -14,7 +14,7 @@ returns-then-alertable g c =
     let is = sym c.if-alertable.true in
     record {
       event = subst (λ (a : Bool). Makes (enqueue_event a old.number c.args.m.0 c.args.c.0) old new) is c.load_count_alertable.ensures.event;
-      begun = subst (λ (a : Bool). new ≡ record (learnt old new) { wait = Some (begun_wait a c.args.m.0 c.args.c.0 c.load_count_alertable.result); pen = made old.pen }) is c.load_count_alertable.ensures.begun;
+      begun = subst (λ (a : Bool). new ≡ record old { part = record (learnt old.part new.part) { wait = Some (begun_wait a c.args.m.0 c.args.c.0 c.load_count_alertable.result); pen = made old.pen } }) is c.load_count_alertable.ensures.begun;
     }
 
 pub returns-else-alertable : goal.returns-else-alertable
@@ -24,5 +24,5 @@ returns-else-alertable g c =
     let is = sym c.if-alertable.false in
     record {
       event = subst (λ (a : Bool). Makes (enqueue_event a old.number c.args.m.0 c.args.c.0) old new) is c.load_count.ensures.event;
-      begun = subst (λ (a : Bool). new ≡ record (learnt old new) { wait = Some (begun_wait a c.args.m.0 c.args.c.0 c.load_count.result); pen = made old.pen }) is c.load_count.ensures.begun;
+      begun = subst (λ (a : Bool). new ≡ record old { part = record (learnt old.part new.part) { wait = Some (begun_wait a c.args.m.0 c.args.c.0 c.load_count.result); pen = made old.pen } }) is c.load_count.ensures.begun;
     }

@@ -76,13 +76,13 @@ returns-clause-rest g c =
     let count = new.count in
     let wait = new.wait in
     let asked = c.sleep.new.me in
-    let gone : new ≡ record asked { count = count; stand = None; failed = without o asked.failed; wait = wait }
-    = c.withdraw.ensures.rest ∙ ap (λ u. record asked { count = count; stand = None; failed = without o asked.failed; turns = u; wait = wait }) (c.withdraw.ensures.at_cond tt) in
+    let gone : new ≡ record asked { part = record asked.part { count = count; stand = None; failed = without o asked.failed; wait = wait } }
+    = c.withdraw.ensures.rest ∙ ap (λ u. record asked { part = record asked.part { count = count; stand = None; failed = without o asked.failed; turns = u; wait = wait } }) (c.withdraw.ensures.at_cond tt) in
     let blocked = gone
-    ∙ ((λ j. record (asleep j) { count = count; stand = None; failed = without o (asleep j).failed; wait = wait })
-    ∙ ((λ j. record (c.leave-2.ensures j) { count = count; stand = None; failed = without o (c.leave-2.ensures j).failed; wait = wait; alerted = true })
-    ∙ ((λ j. record (c.push.ensures.cond tt j) { spin = None; queue = []; left = []; count = count; stand = None; failed = without o (c.push.ensures.cond tt j).failed; wait = wait; alerted = true })
-    ∙ ((λ j. record (stood j) { spin = None; queue = []; left = []; count = count; stand = None; failed = without o (stood j).failed; wait = wait; alerted = true })
-    ∙ ((λ j. record (c.enter.ensures.inside j) { spin = None; queue = []; left = []; count = count; stand = None; failed = without o (c.enter.ensures.inside j).failed; wait = wait; alerted = true })
-    ∙ (λ j. record old { spin = sym out.spin j; queue = sym out.queue j; owed = sym out.owed j; left = sym out.left j; count = count; stand = sym out.stand j; failed = without_twice o old.failed j; wait = wait; alerted = true })))))) in
-    blocked ∙ (λ j. record old { count = count; failed = without o old.failed; wait = wait; alerted = sym (ap (λ k. k.alerted) blocked) j })
+    ∙ ((λ j. record (asleep j) { part = record (asleep j).part { count = count; stand = None; failed = without o (asleep j).failed; wait = wait } })
+    ∙ ((λ j. record (c.leave-2.ensures j) { part = record (c.leave-2.ensures j).part { count = count; stand = None; failed = without o (c.leave-2.ensures j).failed; wait = wait; alerted = true } })
+    ∙ ((λ j. record (c.push.ensures.cond tt j) { part = record (c.push.ensures.cond tt j).part { spin = None; queue = []; left = []; count = count; stand = None; failed = without o (c.push.ensures.cond tt j).failed; wait = wait; alerted = true } })
+    ∙ ((λ j. record (stood j) { part = record (stood j).part { spin = None; queue = []; left = []; count = count; stand = None; failed = without o (stood j).failed; wait = wait; alerted = true } })
+    ∙ ((λ j. record (c.enter.ensures.inside j) { part = record (c.enter.ensures.inside j).part { spin = None; queue = []; left = []; count = count; stand = None; failed = without o (c.enter.ensures.inside j).failed; wait = wait; alerted = true } })
+    ∙ (λ j. record old { part = record old.part { spin = sym out.spin j; queue = sym out.queue j; owed = sym out.owed j; left = sym out.left j; count = count; stand = sym out.stand j; failed = without_twice o old.failed j; wait = wait; alerted = true } })))))) in
+    blocked ∙ (λ j. record old { part = record old.part { count = count; failed = without o old.failed; wait = wait; alerted = sym (ap (λ k. k.alerted) blocked) j } })

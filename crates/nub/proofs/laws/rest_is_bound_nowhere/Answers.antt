@@ -1,6 +1,5 @@
-use Rattle.nub_rule.specs.Known.{part_of}
 use Rattle.nub_rule.proofs.Owing.{bound-nowhere}
 use Rattle.nub.proofs.laws.rest_is_bound_nowhere.Goals as goal
 
 pub returns : goal.returns
-returns g c = λ p k r o queue. bound-nowhere o queue k.number (part_of k) r.outside.stand r.turns r.cleared
+returns g c = λ p k r o queue. bound-nowhere o queue k.number k.part r.outside.stand r.turns r.cleared

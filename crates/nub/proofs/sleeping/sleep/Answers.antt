@@ -6,7 +6,7 @@ use Rattle.nub.proofs.sleeping.sleep.Goals.{else-alertable-via-then-alertable+el
 use Rattle.nub.proofs.sleeping.sleep.Goals as goal
 
 pub loop-init : goal.loop-init
-loop-init g c = let t = c.requires.tested in (t.0, t.0.stage, t.1, t.2, ap (λ (w : Opt Stand). record c.args.me.now { stand = w }) t.1)
+loop-init g c = let t = c.requires.tested in (t.0, t.0.stage, t.1, t.2, ap (λ (w : Opt Stand). record c.args.me.now { part = record c.args.me.now.part { stand = w } }) t.1)
 
 pub read_ready-requires-clause-tested : goal.read_ready-requires-clause-tested
 read_ready-requires-clause-tested g c κs within = let i = c.loop.invariant in (record i.0 { stage = i.1 }, ap (λ k. k.stand) i.4, i.3)

@@ -10,7 +10,7 @@ take_spin-requires-clause-reason g c κs within = subst (λ k. HasReason c.args.
 
 pub returns-then-take_spin-eq0-clause-inside : goal.returns-then-take_spin-eq0-clause-inside
 returns-then-take_spin-eq0-clause-inside g c = let z = c.take_spin.new.me in
-    subst (λ k. z ≡ record k { spin = Some (object_of c.args.at); queue = z.queue; owed = []; left = z.queue; count = z.count; failed = without (object_of c.args.at) k.failed }) c.loop.invariant (c.take_spin.ensures.won c.if-take_spin-eq0.true)
+    subst (λ k. z ≡ record k { part = record k.part { spin = Some (object_of c.args.at); queue = z.queue; owed = []; left = z.queue; count = z.count; failed = without (object_of c.args.at) k.failed } }) c.loop.invariant (c.take_spin.ensures.won c.if-take_spin-eq0.true)
 
 pub returns-then-take_spin-eq0-clause-small : goal.returns-then-take_spin-eq0-clause-small
 returns-then-take_spin-eq0-clause-small g c = c.take_spin.ensures.small c.if-take_spin-eq0.true

@@ -3,7 +3,7 @@ use lib.ListN.{get_elem?}
 use Rattle.nub_rule.specs.declared.package.Stored.{Stored}
 use Rattle.nub_rule.specs.Ends.{Leaves}
 use Rattle.nub_rule.specs.Forks.{with_number, in_order}
-use Rattle.nub_rule.specs.Known.{Known, part_of}
+use Rattle.nub_rule.specs.Known.{Known}
 use Rattle.nub_rule.proofs.Ordering.{in-order-long}
 use Rattle.nub.specs.Ended.{KeepsLocks, IsWhole}
 use Rattle.nub.specs.History.{AreStored}
@@ -34,7 +34,7 @@ history-recorded-requires g c = λ traced.
     let holds = g.U.Uses.holds c.args.p.world in
     let values = c.close_forked-values.result.values.items in
     let v = c.close_forked-values.ensures.values in
-    let left : Leaves layout holds (map (λ t. part_of t) (in_order n all)) values = subst (λ (ts : List K). Leaves layout holds (map (λ t. part_of t) (in_order n ts)) values) both v.1 in
+    let left : Leaves layout holds (map (λ t. t.part) (in_order n all)) values = subst (λ (ts : List K). Leaves layout holds (map (λ t. t.part) (in_order n ts)) values) both v.1 in
     let traces = sym c.traced-traced.ensures ∙ traced in
     let s = c.close_forked-values.ensures.stored in
     let are = are_stored layout holds c.args.p (in_order n all) values c.close_forked-values.result.stored.items left (in-order-each (λ (k : K). HasStored c.args.p.traced k) n all c.requires.all (λ i x at. (c.requires.left i x at).stored)) traces (s.0 ∙ ap (λ ts. map (λ t. t.entries) (in_order n ts)) both) (s.1 ∙ ap (λ ts. map (λ t. t.lost) (in_order n ts)) both) in
@@ -60,7 +60,7 @@ returns-clause-values g c =
     let holds = g.U.Uses.holds c.args.p.world in
     let values = c.close_forked-values.result.values.items in
     let v = c.close_forked-values.ensures.values in
-    let left : Leaves layout holds (map (λ t. part_of t) (in_order n all)) values = subst (λ (ts : List K). Leaves layout holds (map (λ t. part_of t) (in_order n ts)) values) both v.1 in
+    let left : Leaves layout holds (map (λ t. t.part) (in_order n all)) values = subst (λ (ts : List K). Leaves layout holds (map (λ t. t.part) (in_order n ts)) values) both v.1 in
     let empty = ap (λ t. t.value.items) c.of.ensures ∙ (ap (λ ts. ts.items) c.new-2.ensures ∙ c.new.ensures.items) in
     let over = ap (λ t. t.value.items) c.of-over.ensures ∙ ap (λ ts. ts.items) c.new-ended.ensures in
     let never = ap (λ t. t.value.items) c.of-never.ensures ∙ ap (λ ts. ts.items) c.new-unborn.ensures in
@@ -78,7 +78,7 @@ returns-clause-traced g c = λ traces.
     let holds = g.U.Uses.holds c.args.p.world in
     let values = c.close_forked-values.result.values.items in
     let v = c.close_forked-values.ensures.values in
-    let left : Leaves layout holds (map (λ t. part_of t) (in_order n all)) values = subst (λ (ts : List K). Leaves layout holds (map (λ t. part_of t) (in_order n ts)) values) both v.1 in
+    let left : Leaves layout holds (map (λ t. t.part) (in_order n all)) values = subst (λ (ts : List K). Leaves layout holds (map (λ t. t.part) (in_order n ts)) values) both v.1 in
     let s = c.close_forked-values.ensures.stored in
     let are = are_stored layout holds c.args.p (in_order n all) values c.close_forked-values.result.stored.items left (in-order-each (λ (k : K). HasStored c.args.p.traced k) n all c.requires.all (λ i x at. (c.requires.left i x at).stored)) traces (s.0 ∙ ap (λ ts. map (λ t. t.entries) (in_order n ts)) both) (s.1 ∙ ap (λ ts. map (λ t. t.lost) (in_order n ts)) both) in
     let given_are = subst (λ (xs : List Stored). AreStored left.log xs) (sym c.as_slice.ensures.value) are in

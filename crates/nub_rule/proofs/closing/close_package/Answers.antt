@@ -6,7 +6,6 @@ use Rattle.larch_actions.specs.declared.event.Layout.{Layout}
 use Rattle.larch_actions.specs.declared.event.Life.TheVariants.{Live}
 use Rattle.larch_actions.specs.declared.event.Version.TheVariants.{Two}
 use Rattle.nub_rule.specs.declared.view.Part.{Part}
-use Rattle.nub_rule.specs.Known.{part_of}
 use Rattle.nub_rule.specs.Parts.{Got}
 use Rattle.nub_rule.specs.Ends.{Settles, Leaves}
 use Rattle.nub_rule.proofs.Each.{each-map}
@@ -21,7 +20,7 @@ gather_all-seat-requires-clause-threads g c κs within = λ n t e. let f = c.req
 settled : (g : Over) (c : After-close_with g) → Settles c.args.p.layout (g.U.Uses.holds c.args.p.world) c.gather_all-seat.result.seat.me.0.back (slots_items c.close_with.result.slots)
 settled g c = let e = c.gather_all-seat.ensures in let key = c.p.inside.table.shared.key in let seat = c.gather_all-seat.result.seat in
     let about : key.layout ≡ c.args.p.layout = ap (λ s. s.layout) c.p.view_is in let world : key.world.value ≡ c.args.p.world = ap (λ s. s.world) c.p.view_is in
-    let idle = each-map (λ t. part_of t) (λ _ p. ((m : ℕ) (x : g.row.U-Value.Denot) → ¬ Got p m x) × (p.wait ≡ None) × (key.layout.version ≡ Two → p.life ≢ Live)) c.args.threads.items
+    let idle = each-map (λ t. t.part) (λ _ p. ((m : ℕ) (x : g.row.U-Value.Denot) → ¬ Got p m x) × (p.wait ≡ None) × (key.layout.version ≡ Two → p.life ≢ Live)) c.args.threads.items
     (λ n t at. let r = c.requires.rest n t at in ((c.requires.threads n t at).4, r.0, λ two. r.1 (ap (λ (l : Layout). l.version) (sym about) ∙ two))) in
     let laid : key.layout.threads ≡ c.p.inside.layout.threads = ap (λ (l : Layout). l.threads) c.p.invariant.laid_out in let some_there = c.p.invariant.lawful.some in
     subst (λ (x : Layout × g.row.U-World.Denot). Settles x.0 (g.U.Uses.holds x.1) seat.me.0.back (slots_items c.close_with.result.slots)) (λ i. (about i, world i))

@@ -1,6 +1,5 @@
 use Rattle.std.proofs.Common.{append_assoc, arith, map, ◌≡◌, ◌+◌, ◌++◌, [], ◌∷◌, ◌∙◌, ap, sym, length, length-append, subst, ◌≤◌, ℕ}
 use Rattle.std.proofs.lemmas.List.{length-map}
-use Rattle.nub_rule.specs.Known.{part_of}
 use Rattle.nub_rule.proofs.Each.{all_read, at_middle}
 use Rattle.nub_rule.proofs.Ends.{maps-more}
 use Rattle.nub_rule.proofs.Seats.{collects}
@@ -36,7 +35,7 @@ pub loop-thread-preserved : goal.loop-thread-preserved
 loop-thread-preserved g c = let t = c.in-Some.thread in let i = c.loop-thread.invariant in let e = c.gather.ensures in record {
   of = e.of ∙ i.of;
   kind = e.kind;
-  back = maps-more (λ t. part_of t) _ _ c.loop-thread.yielded t i.back e.back;
+  back = maps-more (λ t. t.part) _ _ c.loop-thread.yielded t i.back e.back;
   all = i.all ∙ (ap (λ l. c.loop-thread.yielded ++ l) c.in-Some.ensures.steps.0 ∙ sym (append_assoc c.loop-thread.yielded (t ∷ []) c.next.new.self.rest.items));
   entries = maps-more (λ t. t.entries) _ _ c.loop-thread.yielded t i.entries e.entries;
   losses = maps-more (λ t. t.lost) _ _ c.loop-thread.yielded t i.losses e.losses;
@@ -48,7 +47,7 @@ loop-thread-preserved g c = let t = c.in-Some.thread in let i = c.loop-thread.in
 
 pub returns-clause-back : goal.returns-clause-back
 returns-clause-back g c = let i = c.loop-thread.invariant in let r = c.loop-thread.thread-iterator.rest in let z : length r.items ≡ 0 = omega (arith, c.in-None.ensures) in
-    i.back ∙ ap (λ l. map (λ t. part_of t) l) (all_read c.args.threads.items c.loop-thread.yielded r.items i.all z)
+    i.back ∙ ap (λ l. map (λ t. t.part) l) (all_read c.args.threads.items c.loop-thread.yielded r.items i.all z)
 
 pub returns-clause-stored : goal.returns-clause-stored
 returns-clause-stored g c = let i = c.loop-thread.invariant in let r = c.loop-thread.thread-iterator.rest in let z : length r.items ≡ 0 = omega (arith, c.in-None.ensures) in

@@ -2,7 +2,6 @@ use Rattle.std.proofs.Common.{arith, map, ◌≡◌, ◌+◌, ◌++◌, [], ◌�
 use Rattle.std.proofs.lemmas.List.{length-map}
 use Rattle.nub_rule.specs.Forks.{MayComeBack, in_order, with_number}
 use Rattle.nub_rule.specs.Items.{Each}
-use Rattle.nub_rule.specs.Known.{part_of}
 use Rattle.nub_rule.proofs.Each.{each-none, each-snoc}
 use Rattle.nub_rule.proofs.Ends.{maps-more}
 use Rattle.nub_rule.proofs.Ordering.{in-order-more, one-there}
@@ -37,7 +36,7 @@ pub gather-requires-clause-next : goal.gather-requires-clause-next
 gather-requires-clause-next g c κs within = let n = c.loop-number.number in let i = c.loop-number.invariant in let t = c.take_number-thread.result in let all = c.args.ended.items ++ c.args.unborn.items in
     let own : with_number n all ≡ t ∷ [] = sym (i.left n (omega arith)) ∙ c.take_number-thread.ensures.one in
     let there = one-there n all t own in
-    there.2 ∙ sym (ap length i.back ∙ (length-map (in_order n all) (λ t. part_of t) ∙ i.count))
+    there.2 ∙ sym (ap length i.back ∙ (length-map (in_order n all) (λ t. t.part) ∙ i.count))
 
 pub gather-requires-clause-thread : goal.gather-requires-clause-thread
 gather-requires-clause-thread g c κs within = let n = c.loop-number.number in let i = c.loop-number.invariant in let t = c.take_number-thread.result in let all = c.args.ended.items ++ c.args.unborn.items in
@@ -66,7 +65,7 @@ loop-number-preserved g c = let n = c.loop-number.number in let i = c.loop-numbe
       left = λ m hi. c.take_number-thread.ensures.others m (λ z. omega arith) ∙ i.left m (omega arith);
       count = ap length more ∙ (length-append (in_order n all) (t ∷ []) ∙ ap (λ z. z + 1) i.count);
       idle = each-snoc (λ _ t. MayComeBack t) (in_order n all) (in_order (n + 1) all) n t more i.count c.take_number-thread.ensures.back i.idle;
-      back = maps-more (λ t. part_of t) _ _ (in_order n all) t i.back e.back ∙ ap (λ l. map (λ t. part_of t) l) (sym more);
+      back = maps-more (λ t. t.part) _ _ (in_order n all) t i.back e.back ∙ ap (λ l. map (λ t. t.part) l) (sym more);
       entries = maps-more (λ t. t.entries) _ _ (in_order n all) t i.entries e.entries ∙ ap (λ l. map (λ t. t.entries) l) (sym more);
       losses = maps-more (λ t. t.lost) _ _ (in_order n all) t i.losses e.losses ∙ ap (λ l. map (λ t. t.lost) l) (sym more);
       many = e.shelf.0 ∙ ap (λ z. z + 1) i.many;
@@ -78,7 +77,7 @@ loop-number-preserved g c = let n = c.loop-number.number in let i = c.loop-numbe
 pub returns-clause-back : goal.returns-clause-back
 returns-clause-back g c = let i = c.loop-number.invariant in let all = c.args.ended.items ++ c.args.unborn.items in let hi = c.loop-number.auto.number-end in let lo = c.loop-number-test.false in
     let e : c.loop-number.number ≡ c.args.threads = omega arith in
-    i.back ∙ ap (λ z. map (λ t. part_of t) (in_order z all)) e
+    i.back ∙ ap (λ z. map (λ t. t.part) (in_order z all)) e
 
 pub returns-clause-stored : goal.returns-clause-stored
 returns-clause-stored g c = let i = c.loop-number.invariant in let all = c.args.ended.items ++ c.args.unborn.items in let hi = c.loop-number.auto.number-end in let lo = c.loop-number-test.false in

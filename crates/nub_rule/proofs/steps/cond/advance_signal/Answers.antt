@@ -58,4 +58,4 @@ returns-clause-event g c = let u = c.fetch_add-count.ensures.2 c.args.c.0 c.coun
 
 pub returns-clause-advanced : goal.returns-clause-advanced
 returns-clause-advanced g c = let t = goal.at.returns-clause-advanced g c in let k = c.args.me.now in
-    subst (λ b. b ≡ record k { seen = b.seen; mine = b.mine; places = b.places; left = tail_of k.queue; count = k.count + 1; calling = None; pen = made k.pen }) (sym ((signalled g t.After-fetch_add-count (at_hand g t.After-bring)).sees _ _ _ _ c.me.view_is)) refl
+    subst (λ b. b ≡ record k { part = record k.part { seen = b.seen; mine = b.mine; places = b.places; left = tail_of k.queue; count = k.count + 1; calling = None; pen = made k.pen } }) (sym ((signalled g t.After-fetch_add-count (at_hand g t.After-bring)).sees _ _ _ _ c.me.view_is)) refl

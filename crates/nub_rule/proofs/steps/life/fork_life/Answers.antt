@@ -29,7 +29,7 @@ returns-clause-event g c = let t : ℕ = c.args.who.0 in let i = c.me.invariant 
     (u.1, subst (λ (n : ℕ). Grows n c.me.inside.seat.me.0.part u.1 (fork_event n t)) i.numbered u.2, (λ j. (c.me.inside.seat.me.0.part.seen ++ u.1) ++ fork_event (i.numbered j) t ∷ []), (λ j. c.me.inside.seat.me.0.part.mine ++ fork_event (i.numbered j) t ∷ []), refl)
 
 pub returns-clause-forked : goal.returns-clause-forked
-returns-clause-forked g c = let t : ℕ = c.args.who.0 in as_known (λ z m a. let k = known_as z c.me.inside.number m c.me.inside.entries.items c.me.inside.lost c.me.inside.next in k ≡ record a { seen = k.seen; mine = k.mine; places = k.places; pen = made a.pen; child = Forked t k.seen }) _ _ _ _ _ c.me.inside.seat.me _ _ _ c.me.view_is c.store.ensures.0 (c.store.ensures.2 t c.requires.few c.life_word.ensures).3 refl
+returns-clause-forked g c = let t : ℕ = c.args.who.0 in as_known (λ z m a. let k = known_as z c.me.inside.number m c.me.inside.entries.items c.me.inside.lost c.me.inside.next in k ≡ record a { part = record a.part { seen = k.seen; mine = k.mine; places = k.places; pen = made a.pen }; child = Forked t k.seen }) _ _ _ _ _ c.me.inside.seat.me _ _ _ c.me.view_is c.store.ensures.0 (c.store.ensures.2 t c.requires.few c.life_word.ensures).3 refl
 
 pub returns-clause-apart : goal.returns-clause-apart
 returns-clause-apart g c e = let u = c.store.ensures.2 c.args.who.0 c.requires.few c.life_word.ensures in

@@ -31,7 +31,7 @@ returns-clause-event g c = let u = c.load.ensures.2 c.args.who.0 (thread_low _ _
 
 pub returns-clause-joined : goal.returns-clause-joined
 returns-clause-joined g c = let u = c.load.ensures.2 c.args.who.0 (thread_low _ _ _ _ c.p.view_is c.p.invariant.laid_out c.p.invariant.lawful c.args.who.0 c.requires.named) c.life_word.ensures in
-    λ hit. as_known (λ z m a. let k = known_as z c.me.inside.number m c.me.inside.entries.items c.me.inside.lost c.me.inside.next in k ≡ record a { seen = k.seen; mine = k.mine; places = k.places; pen = made a.pen }) _ _ _ _ _ c.me.inside.seat.me _ _ _ c.me.view_is c.load.ensures.0 (u.0 hit).2 refl
+    λ hit. as_known (λ z m a. let k = known_as z c.me.inside.number m c.me.inside.entries.items c.me.inside.lost c.me.inside.next in k ≡ record a { part = record a.part { seen = k.seen; mine = k.mine; places = k.places; pen = made a.pen } }) _ _ _ _ _ c.me.inside.seat.me _ _ _ c.me.view_is c.load.ensures.0 (u.0 hit).2 refl
 
 pub returns-clause-waits : goal.returns-clause-waits
 returns-clause-waits g c = let u = c.load.ensures.2 c.args.who.0 (thread_low _ _ _ _ c.p.view_is c.p.invariant.laid_out c.p.invariant.lawful c.args.who.0 c.requires.named) c.life_word.ensures in

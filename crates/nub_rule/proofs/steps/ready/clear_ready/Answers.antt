@@ -23,7 +23,7 @@ pub returns-clause-found : goal.returns-clause-found
 returns-clause-found g c = c.swap.ensures.2.0
 
 pub returns-clause-is_new : goal.returns-clause-is_new
-returns-clause-is_new g c = λ s is low. noted (λ _ p. record p { stand = None; turns = turned p.stand p.turns }) _ _ _ _ _ c.me.inside.seat.me _ _ c.me.view_is c.swap.ensures.0 (c.swap.ensures.2.1) ∙ (λ j. record c.args.me.now { stand = None; turns = turned-gate c.args.me.now.stand c.args.me.now.turns s is low j })
+returns-clause-is_new g c = λ s is low. noted (λ _ p. record p { stand = None; turns = turned p.stand p.turns }) _ _ _ _ _ c.me.inside.seat.me _ _ c.me.view_is c.swap.ensures.0 (c.swap.ensures.2.1) ∙ (λ j. record c.args.me.now { part = record c.args.me.now.part { stand = None; turns = turned-gate c.args.me.now.stand c.args.me.now.turns s is low j } })
 
 pub returns-clause-at_cond : goal.returns-clause-at_cond
-returns-clause-at_cond g c = λ s is hi. noted (λ _ p. record p { stand = None; turns = turned p.stand p.turns }) _ _ _ _ _ c.me.inside.seat.me _ _ c.me.view_is c.swap.ensures.0 (c.swap.ensures.2.1) ∙ (λ j. record c.args.me.now { stand = None; turns = turned-cond c.args.me.now.stand c.args.me.now.turns s is hi j })
+returns-clause-at_cond g c = λ s is hi. noted (λ _ p. record p { stand = None; turns = turned p.stand p.turns }) _ _ _ _ _ c.me.inside.seat.me _ _ c.me.view_is c.swap.ensures.0 (c.swap.ensures.2.1) ∙ (λ j. record c.args.me.now { part = record c.args.me.now.part { stand = None; turns = turned-cond c.args.me.now.stand c.args.me.now.turns s is hi j } })

@@ -36,7 +36,7 @@ returns-in-AlertPReturn-clause-event g c = let s : ℕ = c.args.s.0 in let i = c
     (u.0, subst (λ (z : ℕ × Event). Grows z.0 c.me.inside.seat.me.0.part u.0 z.1) (λ j. (i.numbered j, is_event j)) u.1, (λ j. (c.me.inside.seat.me.0.part.seen ++ u.0) ++ is_event j ∷ []), (λ j. c.me.inside.seat.me.0.part.mine ++ is_event j ∷ []), refl)
 
 pub returns-in-AlertPReturn-clause-won : goal.returns-in-AlertPReturn-clause-won
-returns-in-AlertPReturn-clause-won g c = let s : ℕ = c.args.s.0 in λ hit. as_known (λ z m a. let k = known_as z c.me.inside.number m c.me.inside.entries.items c.me.inside.lost c.me.inside.next in k ≡ record a { seen = k.seen; mine = k.mine; places = k.places; failed = without (sem_object s) a.failed; turns = without (sem_object s) a.turns; pen = made a.pen }) _ _ _ _ _ c.me.inside.seat.me _ _ _ c.me.view_is c.compare_exchange.ensures.0 ((c.compare_exchange.ensures.2 s c.semaphore_bit-bit.ensures).0 hit).2 refl
+returns-in-AlertPReturn-clause-won g c = let s : ℕ = c.args.s.0 in λ hit. as_known (λ z m a. let k = known_as z c.me.inside.number m c.me.inside.entries.items c.me.inside.lost c.me.inside.next in k ≡ record a { part = record a.part { seen = k.seen; mine = k.mine; places = k.places; failed = without (sem_object s) a.failed; turns = without (sem_object s) a.turns; pen = made a.pen } }) _ _ _ _ _ c.me.inside.seat.me _ _ _ c.me.view_is c.compare_exchange.ensures.0 ((c.compare_exchange.ensures.2 s c.semaphore_bit-bit.ensures).0 hit).2 refl
 
 pub compare_exchange-requires-in_default-clause-inside : goal.compare_exchange-requires-in_default-clause-inside
 compare_exchange-requires-in_default-clause-inside g c κs within = let near = sem_low _ _ _ _ c.p.view_is c.p.invariant.laid_out c.p.invariant.lawful c.args.s.0 c.requires.named in let word = c.semaphore_bit-bit.ensures in omega arith
@@ -57,5 +57,5 @@ returns-in_default g c = let s : ℕ = c.args.s.0 in let i = c.me.invariant in l
       event = λ hit. let u = t.0 hit in
           as_known (λ z m a. Makes c.args.e a (known_as z c.me.inside.number m c.me.inside.entries.items c.me.inside.lost c.me.inside.next)) _ _ _ _ _ c.me.inside.seat.me _ _ _ c.me.view_is c.compare_exchange-in_default.ensures.0 u.2
           (u.0, subst (λ (z : ℕ × Event). Grows z.0 c.me.inside.seat.me.0.part u.0 z.1) (λ j. (i.numbered j, is_event j)) u.1, (λ j. (c.me.inside.seat.me.0.part.seen ++ u.0) ++ is_event j ∷ []), (λ j. c.me.inside.seat.me.0.part.mine ++ is_event j ∷ []), refl);
-      won = λ hit. as_known (λ z m a. let k = known_as z c.me.inside.number m c.me.inside.entries.items c.me.inside.lost c.me.inside.next in k ≡ record a { seen = k.seen; mine = k.mine; places = k.places; failed = without (sem_object s) a.failed; turns = without (sem_object s) a.turns; pen = made a.pen }) _ _ _ _ _ c.me.inside.seat.me _ _ _ c.me.view_is c.compare_exchange-in_default.ensures.0 (t.0 hit).2 refl;
+      won = λ hit. as_known (λ z m a. let k = known_as z c.me.inside.number m c.me.inside.entries.items c.me.inside.lost c.me.inside.next in k ≡ record a { part = record a.part { seen = k.seen; mine = k.mine; places = k.places; failed = without (sem_object s) a.failed; turns = without (sem_object s) a.turns; pen = made a.pen } }) _ _ _ _ _ c.me.inside.seat.me _ _ _ c.me.view_is c.compare_exchange-in_default.ensures.0 (t.0 hit).2 refl;
     }
