@@ -35,14 +35,14 @@ tells t left None = []
 
 module _ {T : Type 0} where
   -- whether a thread that did this signals the other side
-  abbrev pub is_recorded : Did T → Bool
-  is_recorded (Put n i) = true
-  is_recorded (Took n i) = true
-  is_recorded _ = false
+  abbrev pub is_signalled : Did T → Bool
+  is_signalled (Put n i) = true
+  is_signalled (Took n i) = true
+  is_signalled _ = false
 
   -- the signal of the condition o, if the thread put or took
   abbrev pub signals : ℕ → ℕ → List ℕ → Did T → List Event
-  signals t o left d = cond (is_recorded d) (event t (signal_action o left) ∷ []) []
+  signals t o left d = cond (is_signalled d) (event t (signal_action o left) ∷ []) []
 
   -- what comes between the waits of the thread t and its Release, after it did something or was
   -- alerted
@@ -109,5 +109,5 @@ pub record Answers {T : Type 0} (answered : Opt (Did T)) (kind : Did T → Type 
   pub did : Did T
   pub is : answered ≡ Some did
   pub of : kind did
-  pub recorded : good ≡ is_recorded did
+  pub signalled : good ≡ is_signalled did
   pub does : Does did q p

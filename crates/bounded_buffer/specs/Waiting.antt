@@ -8,7 +8,7 @@ use Rattle.nub.specs.Idle.{IsIdle}
 use Rattle.nub.specs.Rest.{Added, AtRest, IsSame}
 use Rattle.bounded_buffer.specs.declared.did.Did.{Did}
 use Rattle.bounded_buffer.specs.declared.side.Side.{Side}
-use Rattle.bounded_buffer.specs.Calls.{Ran, entered, is_recorded}
+use Rattle.bounded_buffer.specs.Calls.{Ran, entered, is_signalled}
 use Rattle.bounded_buffer.specs.Parts.{Used, HasDone, IsWait, IsWithin, KnowsShut}
 use Rattle.bounded_buffer.specs.Rings.{Held, Does}
 use Rattle.bounded_buffer.specs.Sides.{more}
@@ -63,4 +63,4 @@ module _ {W V H T : Type 0} (ring_in : V → Opt (Held T)) (part : H → ℕ →
       pub has : HasEntered s q a b
       pub does : Does d q r
       pub lawful : Lawful allows after p.world m a.number d has.inn.share
-      pub recorded : tell ≡ is_recorded d
+      pub signalled : tell ≡ is_signalled d

@@ -43,11 +43,11 @@ pub(crate) fn give<B: BufferUse, C: Change<B>, R: Wait>(
     p: &Package<B>,
     me: &mut Thread<B>,
     mutex: MutexId,
-    recorded: Option<CondId>,
+    signalled: Option<CondId>,
     ring: Ring<B::Item>,
 )
     requires rest { AtRest p.now me.old }
-    requires named { (mutex.0 < p.now.layout.mutexes) × IfSome recorded (λ c. c.0 < p.now.layout.conditions) }
+    requires named { (mutex.0 < p.now.layout.mutexes) × IfSome signalled (λ c. c.0 < p.now.layout.conditions) }
     requires world { me.old.world ≡ Some p.now.world }
     requires may { (x : B.Value) × Holds me.old mutex.0 x
         × ((s : B.Share) (y : B.Value) → me.old.share ≡ Some s → B.ring_in y ≡ Some ring
@@ -55,12 +55,12 @@ pub(crate) fn give<B: BufferUse, C: Change<B>, R: Wait>(
     ensures rest { AtRest p.now me.new }
     ensures same { IsSame me.old me.new }
     ensures held { me.new.held ≡ slice_set me.old.held mutex.0 None }
-    ensures event { (left : List ℕ) × Adds (tells me.old.number left recorded) (release_event me.old.number mutex.0) me.old me.new }
+    ensures event { (left : List ℕ) × Adds (tells me.old.number left signalled) (release_event me.old.number mutex.0) me.old me.new }
     ensures share { (y : B.Value) × (B.ring_in y ≡ Some ring) × ((s : B.Share) (x : B.Value) → me.old.share ≡ Some s
         → Holds me.old mutex.0 x → me.new.share ≡ Some (C.after p.now.world mutex.0 me.old.number x y s)) }
 {
     let value = B::from_ring(ring);
-    match recorded {
+    match signalled {
         Some(condition) => {
             signal(rt, p, me, condition);
             release::<B, C, R>(rt, p, me, mutex, value);
@@ -69,7 +69,7 @@ pub(crate) fn give<B: BufferUse, C: Change<B>, R: Wait>(
     }
 }
 
-/// Ends a call at a ring: signals the condition of the other side if `told` is true, and releases
+/// Ends a call at a ring: signals the condition of the other side if `signalled` is true, and releases
 /// the mutex with the ring.
 pub(crate) fn leave<B: BufferUse, C: Change<B>, R: Wait>(
     rt: &R,
@@ -77,19 +77,19 @@ pub(crate) fn leave<B: BufferUse, C: Change<B>, R: Wait>(
     me: &mut Thread<B>,
     mutex: MutexId,
     other: CondId,
-    recorded: bool,
+    signalled: bool,
     ring: Ring<B::Item>,
 )
     requires named { (mutex.0 < p.now.layout.mutexes) × (other.0 < p.now.layout.conditions) }
     requires world { me.old.world ≡ Some p.now.world }
     requires visits { (c : ℕ) × (side : Side) × (s : B.Share) × (q : Held B.Item) × (d : Did B.Item)
-        × (a : Known B.Value B.Share B.World) × Visits B.ring_in B.part B.alike B.fits p.now mutex.0 c side B.allows C.after recorded s q
+        × (a : Known B.Value B.Share B.World) × Visits B.ring_in B.part B.alike B.fits p.now mutex.0 c side B.allows C.after signalled s q
         ring d a me.old }
     ensures rest { AtRest p.now me.new }
     ensures same { IsSame me.old me.new }
     ensures ended { (c : ℕ) (side : Side) (s : B.Share) (q : Held B.Item) (d : Did B.Item) (a : Known B.Value B.Share B.World)
-        → Visits B.ring_in B.part B.alike B.fits p.now mutex.0 c side B.allows C.after recorded s q ring d a me.old
+        → Visits B.ring_in B.part B.alike B.fits p.now mutex.0 c side B.allows C.after signalled s q ring d a me.old
         → Ended B.ring_in B.part B.alike p.now mutex.0 c other.0 side C.after (Some d) s a me.new }
 {
-    give::<B, C, R>(rt, p, me, mutex, recorded.then_some(other), ring);
+    give::<B, C, R>(rt, p, me, mutex, signalled.then_some(other), ring);
 }

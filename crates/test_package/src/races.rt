@@ -64,7 +64,7 @@ pub fn await_start<R: Wait>(rt: &R, notes: &Notes) {
 
 /// Returns the semaphore by which the acting thread is let go on, and the one by which it announces
 /// that it has acted.
-fn recorded(what: Act) -> (SemId, SemId)
+fn semaphores_of(what: Act) -> (SemId, SemId)
     ensures { (result.0.0 < 5) × (result.1.0 < 5) }
 {
     match what {
@@ -86,7 +86,7 @@ pub fn act_often<R: Wait>(
     requires idle { IsIdle pkg.now me.old.number [] me.old }
     ensures { IsIdle pkg.now me.old.number [] me.new }
 {
-    let (goes, came) = recorded(what);
+    let (goes, came) = semaphores_of(what);
     await_start(rt, notes);
     for _i in 0..times {
         p(rt, pkg, me, goes);

@@ -57,7 +57,7 @@ visits g c s own =
       has = h;
       does = did.does;
       lawful = λ x y q p a b does. g.met.B.BufferUse.put_allowed w c.args.at.now c.requires.buffer n x y h.inn.share q p did.did a b does (of_put (λ i. g.B.BufferUse.may_put w m n i h.inn.share) c.args.item did.did did.of later);
-      recorded = c.is_ok.ensures.value ∙ did.recorded;
+      signalled = c.is_ok.ensures.value ∙ did.signalled;
     }
 
 pub leave-requires-clause-visits : goal.leave-requires-clause-visits

@@ -37,7 +37,7 @@ visits g c s own =
       has = h;
       does = did.does;
       lawful = λ x y q p a b does. g.met.B.BufferUse.take_allowed c.args.p.now.world c.args.at.now c.requires.buffer c.args.me.now.number x y h.inn.share q p did.did a b does did.of;
-      recorded = c.is_ok.ensures.value ∙ did.recorded;
+      signalled = c.is_ok.ensures.value ∙ did.signalled;
     }
 
 pub leave-requires-clause-visits : goal.leave-requires-clause-visits
