@@ -3,13 +3,11 @@ ghost use Rattle.std.specs.Prelude.{◌≡◌, ◌≢◌, ◌⊎◌, ◌+◌, �
 ghost use Rattle.larch_actions.specs.declared.event.Version.{Version};
 ghost use Rattle.script_text.specs.declared.line.Line.{Line};
 ghost use Rattle.script_text.specs.Layouts.{head_lines};
-ghost use Rattle.script_text.specs.Operations.{forked_with, forked_after, none_forked, is_born};
-ghost use Rattle.script_text.specs.Table.{fate_of};
 ghost use Rattle.script_text.specs.Runs.{lines_of};
 ghost use Rattle.command_explore.specs.Waits.{lines_before};
 
 use larch_actions::Version;
-use script_text::{Line, Operation};
+use script_text::Line;
 
 // How many lines of the thread are left to pass after this one. There is none where this is the line itself.
 fn passed(line: &Line, thread: u32, left: u32) -> Option<u32>
@@ -45,37 +43,5 @@ pub fn head(version: Version) -> u64
     match version {
         Version::One => 1,
         Version::Two => 2,
-    }
-}
-
-// Whether the line forks the thread, or one did before.
-fn forked_by(line: &Line, thread: u32, before: bool) -> bool
-    ensures { result ≡ forked_with (λ _. before) (fate_of line.now.operation) thread }
-{
-    match line.operation {
-        Operation::Fork { who } => who.0 == thread || before,
-        _ => before,
-    }
-}
-
-// Whether one of the lines forks the thread.
-fn is_forked(lines: &[Line], thread: u32) -> bool
-    ensures { result ≡ forked_after none_forked lines.now thread }
-{
-    let mut forked = false;
-    for line in lines {
-        forked = forked_by(line, thread, forked);
-    }
-    forked
-}
-
-/// Whether the thread is thread 0, or one that a line forks.
-pub fn is_born(lines: &[Line], thread: u32) -> bool
-    ensures { result ≡ is_born (forked_after none_forked lines.now) thread }
-{
-    if thread == 0 {
-        true
-    } else {
-        is_forked(lines, thread)
     }
 }

@@ -6,10 +6,10 @@ ghost use Rattle.script_search.specs.Boards.{moment_of, played_of, scene_of, spe
 ghost use Rattle.command_explore.specs.Messages.{stuck_line};
 ghost use Rattle.command_explore.specs.Waits.{after_text, life_text, stands_text, stuck_text, unborn_text};
 
-use crate::line::{head, is_born, place_of};
+use crate::line::{head, place_of};
 use crate::waits::{Text, at_line, said_of};
 use larch_actions::{Layout, Version};
-use script_search::{Board, Place, Stuck};
+use script_search::{Board, Place, Stuck, is_born};
 use script_text::{Line, Script};
 use std::alloc::{AllocError, Global};
 use text_output::push_with_number;

@@ -1,8 +1,10 @@
 -- One board more keeps what a search has found.
 use Rattle.std.proofs.Common.{◌≡◌, ◌≢◌, ◌⊎◌, inl, inr, ℕ, zero, suc, ◌+◌, ◌<◌, Bool, true, false, cond, eqb, List, [], ◌∷◌, ◌++◌, length, length-append, map, get_or, refl, sym, ap, subst, ◌∙◌, arith, eq-eqb, Some, None}
+use Rattle.std.specs.Prelude.{Result, Ok, Err, IfOk}
 use Rattle.std.specs.List.{slice_get}
 use Rattle.std.specs.declared.option.Option.{Option}
 use mathlib.Core.Option.{none, some-injective, some-ne-none}
+use Rattle.smallvec.specs.SmallVec.{SmallVec}
 use Rattle.larch_actions.specs.declared.event.Event.{Event}
 use Rattle.larch_actions.specs.declared.event.Layout.{Layout}
 use Rattle.larch_actions.specs.declared.event.Pending.{Pending}
@@ -15,9 +17,11 @@ use Rattle.script_plays.specs.Plays.{Goes}
 use Rattle.script_search.specs.declared.board.Place.{Place}
 use Rattle.script_search.specs.declared.board.Place.TheVariants as place
 use Rattle.script_search.specs.declared.board.Thread.{Thread}
-use Rattle.script_search.specs.Boards.{Moment, scene_of, IsBoard, pending_of, life_of, life_beyond, is_inside, holder_of}
-use Rattle.script_search.specs.Keys.{key_of}
-use Rattle.script_search.specs.Founds.{IsThere}
+use Rattle.script_search.specs.declared.board.Board.{Board}
+use Rattle.script_search.specs.declared.found.Found.{Found}
+use Rattle.script_search.specs.Boards.{Moment, moment_of, scene_of, IsBoard, pending_of, life_of, life_beyond, is_inside, holder_of}
+use Rattle.script_search.specs.Keys.{key_of, moment_in}
+use Rattle.script_search.specs.Founds.{IsThere, keys_of, moments_of}
 use Rattle.script_search.specs.Seen.{IsChild, IsSeen}
 use Rattle.script_search.proofs.Rows.{nobody}
 use Rattle.script_search.proofs.Planning.{before_end}
@@ -154,6 +158,14 @@ pub mapped_there : {X Y : Type 0} (f : X → Y) (xs : List X) (k : ℕ) (x : X) 
 mapped_there f [] k x at = absurd (cc)
 mapped_there f (z ∷ zs) zero x at = let same : z ≡ x = cc in ap (λ w. Some (f w)) same
 mapped_there f (z ∷ zs) (suc k) x at = mapped_there f zs k x at
+
+-- a board that is read from the bytes at a place stands there
+pub read_at : {E : Type 0} (f : Found) (k : ℕ) (key : SmallVec ℕ) (bytes : List ℕ) (r : Result Board E) → slice_get f.keys.keys k ≡ Some key → bytes ≡ key.items
+    → IfOk r (λ b. moment_of b ≡ moment_in f.layout bytes) → IfOk r (λ b. slice_get (moments_of f) k ≡ Some (moment_of b))
+read_at f k key bytes (Ok b) at same is =
+    mapped_there (moment_in f.layout) (keys_of f) k key.items (mapped_there (λ (v : SmallVec ℕ). v.items) f.keys.keys k key at)
+    ∙ ap Some (sym (is ∙ ap (moment_in f.layout) same))
+read_at f k key bytes (Err e) at same is = is
 
 module _ (l : Layout) (xs : List Line) (ms : List Moment) (parents : List ℕ) (seen : IsSeen l xs ms parents) (p : ℕ) (a m : Moment) (e : Event)
     (there : slice_get ms p ≡ Some a) (goes : Goes l xs (scene_of a) e (scene_of m)) (board : IsBoard l m) (new : IsThere (map key_of ms) (key_of m) → ⊥) where

@@ -3,6 +3,7 @@ pub mod Rows
 pub mod Planning
 pub mod Ending
 pub mod Keyed
+pub mod Unpacked
 pub mod Moved
 pub mod Growing
 pub mod Trying

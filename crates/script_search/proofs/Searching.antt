@@ -45,10 +45,11 @@ module _ (l : Layout) (xs : List Line) where
     distinct = λ i k n o ati atk low. absurd (omega (arith, low, (only_there m o k atk).0));
   }
 
-  pub searched_first : (m : Moment) (f : Found) (limit : ℕ) → IsFirst l m → IsAlone f m limit → Searched l xs limit f 0
+  pub searched_first : (m : Moment) (f : Found) (limit : ℕ) → IsFirst l m → IsAlone f l m limit → Searched l xs limit f 0
   searched_first m f limit first alone = record {
     sound = record {
       keyed = alone.keyed;
+      layout = alone.layout_is;
       seen = subst (λ (ms : List Moment). IsSeen l xs ms f.parents.items) (sym alone.moments)
           (subst (λ (ps : List ℕ). IsSeen l xs (m ∷ []) ps) (sym alone.parents) (seen_first m first));
     };

@@ -28,7 +28,7 @@ use Rattle.script_search.specs.Keys.{key_of}
 use Rattle.script_search.specs.Moves.{Moves}
 use Rattle.script_search.specs.Tries.{MayTry}
 use Rattle.script_search.specs.Ways.{Leads, IsStep, IsWay, AreWays, last_choices}
-use Rattle.script_search.proofs.Keyed.{same_key}
+use Rattle.script_search.proofs.Unpacked.{same_key}
 use Rattle.script_search.proofs.Growing.{same_scene}
 use Rattle.script_search.proofs.Tells.{never, below}
 use Rattle.script_search.proofs.Planning.{before_end}

@@ -27,7 +27,7 @@ use Rattle.script_plays.specs.declared.choice.Choice.{Choice}
 use Rattle.script_search.specs.declared.board.Board.{Board}
 use Rattle.script_search.specs.Moves.{Moves}
 use Rattle.script_search.specs.Tries.{IsSound, IsAt, Grows, Tries, Exceeds, MayTry, IsTried, AreTried, Leaves}
-use Rattle.script_search.proofs.Keyed.{same_key}
+use Rattle.script_search.proofs.Unpacked.{same_key}
 use Rattle.script_search.proofs.Growing.{seen_pushed, there_before, there_last, there_mapped}
 use Rattle.script_search.proofs.Ending.{reached}
 
@@ -82,6 +82,7 @@ module _ (l : Layout) (xs : List Line) (old new : Found) (p : ℕ) (a m : Moment
         record {
           sound = record {
             keyed = keyed;
+            layout = push.layout ∙ sound.layout;
             seen = subst (λ (ms : List Moment). IsSeen l xs ms new.parents.items) (sym push.moments)
                 (subst (λ (ps : List ℕ). IsSeen l xs (moments_of old ++ m ∷ []) ps) (sym push.parents)
                 (seen_pushed l xs (moments_of old) old.parents.items sound.seen p a m e at goes board pushed.0));
@@ -136,6 +137,10 @@ tries_refused l xs m a e o sound moves is =
 
 moved_goes : (l : Layout) (xs : List Line) (m : Moment) (e : Event) (o : Option Board) (b : Board) → Moves l xs m e o → o ≡ Some b → Goes l xs (scene_of m) e (scene_of (moment_of b)) × IsBoard l (moment_of b)
 moved_goes l xs m e o b moves is = subst (λ (z : Option Board). Moves l xs m e z) is moves
+
+-- the board that an event led to is one of the layout
+pub moved_board : (l : Layout) (xs : List Line) (m : Moment) (f : Found) (e : Event) (o : Option Board) (b : Board) → IsSound l xs f → Moves l xs m e o → o ≡ Some b → IsBoard f.layout (moment_of b)
+moved_board l xs m f e o b sound moves is = subst (λ (z : Layout). IsBoard z (moment_of b)) (sym sound.layout) (moved_goes l xs m e o b moves is).1
 
 pub tries_added : (l : Layout) (xs : List Line) (m : Moment) (old new : Found) (p : ℕ) (e : Event) (o : Option Board) (b : Board) → IsSound l xs old → IsAt old p m
     → Moves l xs m e o → o ≡ Some b → IsKeyed new → Adds old new (moment_of b) p → Tries l xs old new m (λ f. f ≡ e) true

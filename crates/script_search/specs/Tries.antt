@@ -18,9 +18,10 @@ use Rattle.script_search.specs.Boards.{Moment, spec_of, scene_of, played_of}
 use Rattle.script_search.specs.Founds.{moments_of, IsKeyed}
 use Rattle.script_search.specs.Seen.{HasScene, IsSeen}
 
--- the boards are numbered, and each is found from an earlier one
+-- the boards are kept as their bytes in the layout, and each is found from an earlier one
 pub record IsSound (l : Layout) (xs : List Line) (f : Found) : Type 0 where
   pub keyed : IsKeyed f
+  pub layout : f.layout ≡ l
   pub seen : IsSeen l xs (moments_of f) f.parents.items
 
 -- the moment stands at the place

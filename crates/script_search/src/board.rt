@@ -1,10 +1,10 @@
 //! A scene as plain lists.
-mod first;
+pub(crate) mod first;
 mod parts;
 mod rows;
 
 /// Where a thread stands. Mutexes and conditions by their numbers.
-#[derive(Clone, Copy, PartialEq, Eq, Hash)]
+#[derive(Clone, Copy)]
 pub enum Place {
     Unborn,
     /// It lives, and is in no wait.
@@ -17,7 +17,7 @@ pub enum Place {
 }
 
 /// A thread of a scene.
-#[derive(Clone, Copy, PartialEq, Eq, Hash)]
+#[derive(Clone, Copy)]
 pub struct Thread {
     /// How many of its lines are played.
     pub played: u32,
@@ -26,7 +26,7 @@ pub struct Thread {
 }
 
 /// A scene: its threads, by which thread each mutex is held, and which semaphores are available.
-#[derive(PartialEq, Eq, Hash, Drop)]
+#[derive(Drop)]
 pub struct Board {
     pub second: bool,
     pub threads: Vec<Thread>,

@@ -45,7 +45,7 @@ fn attempt(
         None => return Ok(false),
         Some(next) => next,
     };
-    match found.add(alloc, next, node.place) {
+    match found.add(alloc, &next, node.place) {
         Ok(()) => Ok(true),
         Err(stop) => Err(stop),
     }

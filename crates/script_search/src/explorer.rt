@@ -44,8 +44,9 @@ fn start(alloc: Global, plan: &Plan, limit: u32) -> Result<Found, Stop>
     ensures ok { IfOk result (λ f. Searched plan.now.layout plan.now.lines limit f 0) }
     ensures full { IfErr result (λ stop. stop ≡ Stop.Limit → Exceeds plan.now.layout plan.now.lines limit) }
 {
-    let board = Board::first(alloc, &plan.layout())?;
-    match Found::first(alloc, board, limit) {
+    let layout = plan.layout();
+    let board = Board::first(alloc, &layout)?;
+    match Found::first(alloc, &layout, &board, limit) {
         Ok(found) => Ok(found),
         Err(stop) => Err(stop),
     }
@@ -61,7 +62,7 @@ fn look(alloc: Global, plan: &Plan, found: &mut Found, place: u32, limit: u32) -
         (IsDead plan.now.layout plan.now.lines found.new place)) }
     ensures full { IfErr result (λ stop. stop ≡ Stop.Limit → Exceeds plan.now.layout plan.now.lines limit) }
 {
-    let board = found.board(place).copy(alloc)?;
+    let board = found.board(alloc, place)?;
     let moves = match expand_all(alloc, plan, found, &board, place) {
         Ok(moves) => moves,
         Err(stop) => return Err(stop),
@@ -112,7 +113,7 @@ fn stuck_at(alloc: Global, plan: &Plan, found: &Found, place: u32) -> Result<Stu
     requires script { IsScript plan.now.layout plan.now.lines }
     ensures { IfOk result (IsStuckAt plan.now.layout plan.now.lines) }
 {
-    let board = found.board(place).copy(alloc)?;
+    let board = found.board(alloc, place)?;
     let events = trace(alloc, plan, found, place)?;
     let numbers = numbers(alloc, plan, &board)?;
     Ok(Stuck {

@@ -2,10 +2,12 @@
 //!
 //! Promises: `explore` says that a script ends only where each play of it is whole or can go on. Where it gives events, these are a play
 //! that isn't whole and can't go on. Where it stops at a limit, more scenes than that are reached by plays.
-//! Stands on script_plays, whose definitions know no search, and on indexmap. The boards found are also the queue of those to be looked at.
+//! Stands on script_plays, whose definitions know no search, on indexmap and on smallvec. The boards found are kept as bytes, and are also the
+//! queue of those to be looked at.
 #![tactic(auto)]
 
 mod board;
+mod born;
 mod expand;
 mod explorer;
 mod found;
@@ -14,8 +16,10 @@ mod pack;
 mod plan;
 mod step;
 mod trace;
+mod unpack;
 mod whole;
 
 pub use board::{Board, Place, Thread};
+pub use born::is_born;
 pub use explorer::{Answer, Stuck, explore};
 pub use found::Stop;

@@ -2,14 +2,14 @@
 ghost use Rattle.std.specs.Prelude.{◌≡◌, ◌^◌, ◌<◌, ◌≤◌, IfOk, ℕ, length, take, filter, slice_get, OnSome, ◌==◌};
 ghost use Rattle.larch_actions.specs.Layout.{IsLawful};
 ghost use Rattle.script_text.specs.Text.{IsScript};
-ghost use Rattle.script_text.specs.Table.{fate_of};
-ghost use Rattle.script_text.specs.Operations.{none_forked, forked_with, forked_after};
+ghost use Rattle.script_text.specs.Operations.{is_born, none_forked, forked_after};
 ghost use Rattle.script_text.specs.Runs.{lines_of, added_by, total};
 ghost use Rattle.script_plays.specs.Choices.{is_silent};
 ghost use Rattle.script_plays.specs.Scenes.{number_of, settled};
 ghost use Rattle.script_search.specs.Boards.{moment_of, spec_of, played_of, IsBoard, SameSize};
 
 use crate::board::Board;
+use crate::born::is_born;
 use larch_actions::Layout;
 use script_text::{Line, Operation, Script};
 use std::alloc::{AllocError, Global};
@@ -65,27 +65,6 @@ fn sum(lines: &[Line], mutex: u32) -> u64
         sum += added(line, mutex);
     }
     sum
-}
-
-// Whether the line forks the thread, or one did before.
-fn forked_by(line: &Line, t: u32, before: bool) -> bool
-    ensures { result ≡ forked_with (λ _. before) (fate_of line.now.operation) t }
-{
-    match line.operation {
-        Operation::Fork { who } => who.0 == t || before,
-        _ => before,
-    }
-}
-
-// Whether one of the lines forks the thread.
-fn is_forked(all: &[Line], t: u32) -> bool
-    ensures { result ≡ forked_after none_forked all.now t }
-{
-    let mut forked = false;
-    for line in all {
-        forked = forked_by(line, t, forked);
-    }
-    forked
 }
 
 impl<'a> Plan<'a> {
@@ -192,10 +171,10 @@ impl<'a> Plan<'a> {
         }
     }
 
-    /// Whether a line forks the thread.
-    pub fn is_forked(&self, t: u32) -> bool
-        ensures { result ≡ forked_after none_forked self.now.lines t }
+    /// Whether the thread is thread 0, or one that a line forks.
+    pub fn is_born(&self, t: u32) -> bool
+        ensures { result ≡ is_born (forked_after none_forked self.now.lines) t }
     {
-        is_forked(self.all, t)
+        is_born(self.all, t)
     }
 }

@@ -29,7 +29,9 @@ pub fn trace(
     let mut at = place;
     while at > 0 {
         let parent = found.parent(at);
-        events.push(step(alloc, plan, found.board(parent), found.board(at))?)?;
+        let from = found.board(alloc, parent)?;
+        let to = found.board(alloc, at)?;
+        events.push(step(alloc, plan, &from, &to)?)?;
         at = parent;
     }
     events.reverse();

@@ -1,19 +1,11 @@
 //! Whether all threads of a scene are finished.
 ghost use Rattle.std.specs.Prelude.{◌≡◌, ◌<◌, ◌↔◌, IsTrue};
-ghost use Rattle.script_text.specs.Operations.{is_born, none_forked, forked_after};
 ghost use Rattle.script_plays.specs.Plays.{IsFinished, AllFinished};
 ghost use Rattle.script_search.specs.Boards.{moment_of, scene_of, IsBoard};
 
 use crate::board::Board;
 use crate::plan::Plan;
 use larch_actions::Version;
-
-// Whether the thread lives at first or is forked by a line.
-fn is_born(plan: &Plan, t: u32) -> bool
-    ensures { result ≡ is_born (forked_after none_forked plan.now.lines) t }
-{
-    t == 0 || plan.is_forked(t)
-}
 
 fn is_finished(plan: &Plan, board: &Board, t: u32) -> bool
     requires thread { t < plan.now.layout.threads }
@@ -22,7 +14,7 @@ fn is_finished(plan: &Plan, board: &Board, t: u32) -> bool
 {
     match plan.layout().version {
         Version::One => plan.count(t) <= board.played(t),
-        Version::Two => board.has_ended(t) || !is_born(plan, t),
+        Version::Two => board.has_ended(t) || !plan.is_born(t),
     }
 }
 

@@ -8,7 +8,7 @@ use super::{Board, Place, Thread};
 use larch_actions::{Layout, Version};
 use std::alloc::{AllocError, Global};
 
-fn is_second(version: Version) -> bool
+pub(crate) fn is_second(version: Version) -> bool
     ensures { result ≡ is_second version }
 {
     match version {

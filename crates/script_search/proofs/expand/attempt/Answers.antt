@@ -1,14 +1,19 @@
 use Rattle.script_text.specs.Runs.{event}
 use Rattle.script_search.specs.Boards.{moment_of}
-use Rattle.script_search.proofs.Trying.{tries_refused, tries_added, tries_full}
+use Rattle.script_search.proofs.Trying.{moved_board, tries_refused, tries_added, tries_full}
 use Rattle.script_search.proofs.expand.attempt.Goals as goal
 
 pub returns-in-None-clause-ok : goal.returns-in-None-clause-ok
 returns-in-None-clause-ok c =
     tries_refused c.args.plan.now.layout c.args.plan.now.lines (moment_of c.args.node.now.board.now) c.args.found.now (event c.args.node.now.thread c.args.choice.now.action) c.in_ok-next_scenes.field-0 c.requires.sound c.in_ok-next_scenes.ensures c.in-None.is
 
-pub returns-in-Err-clause-full : goal.returns-in-Err-clause-full
-returns-in-Err-clause-full c = λ is.
+pub add-requires-clause-board : goal.add-requires-clause-board
+add-requires-clause-board c =
+    moved_board c.args.plan.now.layout c.args.plan.now.lines (moment_of c.args.node.now.board.now) c.args.found.now (event c.args.node.now.thread c.args.choice.now.action) c.in_ok-next_scenes.field-0 c.in-Some.next
+    c.requires.sound c.in_ok-next_scenes.ensures c.in-Some.is
+
+pub returns-clause-full : goal.returns-clause-full
+returns-clause-full c = λ is.
     tries_full c.args.plan.now.layout c.args.plan.now.lines (moment_of c.args.node.now.board.now) c.args.found.now c.args.node.now.place (event c.args.node.now.thread c.args.choice.now.action) c.in_ok-next_scenes.field-0 c.in-Some.next
     c.requires.sound c.requires.there c.in_ok-next_scenes.ensures c.in-Some.is (c.in-Err.ensures.full is)
 

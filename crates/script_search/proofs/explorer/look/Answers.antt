@@ -1,27 +1,21 @@
-use Rattle.std.proofs.Common.{subst, sym}
-use Rattle.script_search.specs.Boards.{Moment, moment_of}
-use Rattle.script_search.specs.Tries.{IsAt}
+use Rattle.script_search.specs.Boards.{moment_of}
 use Rattle.script_search.proofs.Searching.{searched_on, searched_over}
 use Rattle.script_search.proofs.explorer.look.Goals as goal
 
 pub expand_all-requires-clause-board : goal.expand_all-requires-clause-board
 expand_all-requires-clause-board c =
-    let here = subst (λ (m : Moment). IsAt c.args.found.now c.args.place m) (sym c.in_ok-board.ensures) c.board.ensures in
-    c.requires.searched.sound.seen.boards c.args.place (moment_of c.in_ok-board.board) here
+    c.requires.searched.sound.seen.boards c.args.place (moment_of c.in_ok-board.board) c.in_ok-board.ensures
 
 pub returns-then-moves-clause-ok : goal.returns-then-moves-clause-ok
 returns-then-moves-clause-ok c =
-    let here = subst (λ (m : Moment). IsAt c.args.found.now c.args.place m) (sym c.in_ok-board.ensures) c.board.ensures in
     searched_on c.args.plan.now.layout c.args.plan.now.lines c.args.limit c.args.found.now c.expand_all.new.found c.args.place (moment_of c.in_ok-board.board) c.in-Ok.moves
-    c.requires.searched c.in-Ok.ensures.ok here c.if-moves.true
+    c.requires.searched c.in-Ok.ensures.ok c.in_ok-board.ensures c.if-moves.true
 
 pub is_whole-requires : goal.is_whole-requires
 is_whole-requires c =
-    let here = subst (λ (m : Moment). IsAt c.args.found.now c.args.place m) (sym c.in_ok-board.ensures) c.board.ensures in
-    c.requires.searched.sound.seen.boards c.args.place (moment_of c.in_ok-board.board) here
+    c.requires.searched.sound.seen.boards c.args.place (moment_of c.in_ok-board.board) c.in_ok-board.ensures
 
 pub returns-clause-ok : goal.returns-clause-ok
 returns-clause-ok c =
-    let here = subst (λ (m : Moment). IsAt c.args.found.now c.args.place m) (sym c.in_ok-board.ensures) c.board.ensures in
     searched_over c.args.plan.now.layout c.args.plan.now.lines c.args.limit c.args.found.now c.expand_all.new.found c.args.place (moment_of c.in_ok-board.board) c.in-Ok.moves
-    c.requires.searched c.in-Ok.ensures.ok here c.if-moves.false c.is_whole.result c.is_whole.ensures
+    c.requires.searched c.in-Ok.ensures.ok c.in_ok-board.ensures c.if-moves.false c.is_whole.result c.is_whole.ensures

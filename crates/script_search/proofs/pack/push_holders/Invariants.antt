@@ -1,6 +1,7 @@
 use Rattle.std.proofs.Common.{◌≡◌, ◌++◌, take}
-use Rattle.script_search.specs.Keys.{holders_key}
+use Rattle.std.specs.List.{flat_map}
+use Rattle.script_search.specs.Keys.{holder_cells}
 use Rattle.script_search.proofs.pack.push_holders.Given as goal
 
 abbrev pub invariant-loop-holder : goal.invariant-loop-holder
-invariant-loop-holder l = l.key.items ≡ l.initial.key.items ++ holders_key (take l.holder-index l.holders)
+invariant-loop-holder l = l.key.items ≡ l.initial.key.items ++ flat_map holder_cells (take l.holder-index l.holders)

@@ -12,15 +12,15 @@ board-requires c =
     omega (arith, before, c.loop-at.invariant.there)
 
 pub step-requires-clause-from : goal.step-requires-clause-from
-step-requires-clause-from c = c.requires.sound.seen.boards c.parent-parent.result (moment_of c.board.result.now) c.board.ensures
+step-requires-clause-from c = c.requires.sound.seen.boards c.parent-parent.result (moment_of c.in_ok-from.from) c.in_ok-from.ensures
 
 pub step-requires-clause-to : goal.step-requires-clause-to
-step-requires-clause-to c = c.requires.sound.seen.boards c.loop-at.at (moment_of c.board-in-loop-at.result.now) c.board-in-loop-at.ensures
+step-requires-clause-to c = c.requires.sound.seen.boards c.loop-at.at (moment_of c.in_ok-to.to) c.in_ok-to.ensures
 
 pub step-requires-clause-some : goal.step-requires-clause-some
 step-requires-clause-some c =
-    parent_leads c.args.plan.now.layout c.args.plan.now.lines c.args.found.now c.requires.sound c.loop-at.at c.parent-parent.result (moment_of c.board.result.now) (moment_of c.board-in-loop-at.result.now)
-    c.loop-at-test.true c.loop-at.invariant.there c.parent-parent.ensures c.board.ensures c.board-in-loop-at.ensures
+    parent_leads c.args.plan.now.layout c.args.plan.now.lines c.args.found.now c.requires.sound c.loop-at.at c.parent-parent.result (moment_of c.in_ok-from.from) (moment_of c.in_ok-to.to)
+    c.loop-at-test.true c.loop-at.invariant.there c.parent-parent.ensures c.in_ok-from.ensures c.in_ok-to.ensures
 
 pub loop-at-smaller : goal.loop-at-smaller
 loop-at-smaller c = parent_before c.args.plan.now.layout c.args.plan.now.lines c.args.found.now c.requires.sound c.loop-at.at c.parent-parent.result c.loop-at-test.true c.loop-at.invariant.there c.parent-parent.ensures
@@ -34,8 +34,8 @@ loop-at-preserved c =
     record {
       there = omega (arith, before, c.loop-at.invariant.there);
       back = subst (λ (es : List Event). LeadBack l xs f c.parent-parent.result c.args.place es) (sym c.in_ok-push.ensures.items)
-          (back_more l xs f c.requires.sound c.parent-parent.result c.loop-at.at c.args.place c.loop-at.events.items (moment_of c.board.result.now) (moment_of c.board-in-loop-at.result.now) c.in_ok-step.field-0
-          c.board.ensures c.board-in-loop-at.ensures c.in_ok-step.ensures c.loop-at.invariant.back);
+          (back_more l xs f c.requires.sound c.parent-parent.result c.loop-at.at c.args.place c.loop-at.events.items (moment_of c.in_ok-from.from) (moment_of c.in_ok-to.to) c.in_ok-step.field-0
+          c.in_ok-from.ensures c.in_ok-to.ensures c.in_ok-step.ensures c.loop-at.invariant.back);
     }
 
 pub returns : goal.returns
