@@ -1,5 +1,5 @@
 -- Each event of a play lowers a rank, so plays are bounded.
-use Rattle.std.proofs.Common.{◌≡◌, ◌≢◌, ◌⊎◌, inl, inr, ℕ, zero, suc, ◌+◌, ◌*◌, ◌-◌, ◌<◌, ◌≤◌, Bool, true, false, cond, eqb, eq-eqb, ne_eqb, List, [], ◌∷◌, ◌++◌, length, length-append, append_assoc, append-nil, drop, refl, ap, sym, subst, ◌∙◌, arith}
+use Rattle.std.proofs.Common.{◌≡◌, ◌≢◌, ◌⊎◌, inl, inr, ℕ, zero, suc, ◌+◌, ◌*◌, ◌<◌, ◌≤◌, Bool, true, false, cond, eq-eqb, ne_eqb, List, [], ◌∷◌, ◌++◌, length, length-append, append_assoc, append-nil, refl, ap, sym, subst, ◌∙◌, arith}
 use Rattle.std.proofs.lemmas.List.{length-drop}
 use Rattle.std.proofs.lemmas.Bool.Decides.{eqb_tells}
 use mathlib.Core.Logic.{dite}
@@ -11,8 +11,6 @@ use Rattle.larch_actions.specs.declared.event.Action.{Action}
 use Rattle.larch_actions.specs.declared.event.Action.TheVariants as action
 use Rattle.larch_actions.specs.declared.event.Life.{Life}
 use Rattle.larch_actions.specs.declared.event.Life.TheVariants.{Unborn, Live, Ended}
-use Rattle.larch_actions.specs.declared.event.MutexId.{MutexId}
-use Rattle.larch_actions.specs.declared.event.CondId.{CondId}
 use Rattle.larch_actions.specs.declared.event.Pending.{Pending}
 use Rattle.larch_actions.specs.declared.event.Pending.TheVariants.{Nothing, Waiting, AlertWaiting}
 use Rattle.larch_actions.specs.declared.event.Version.{Version}
@@ -27,9 +25,8 @@ use Rattle.script_plays.specs.declared.choice.Turn.TheVariants.{Stays, Next}
 use Rattle.script_plays.specs.declared.choice.Choice.{Choice}
 use Rattle.script_plays.specs.Choices.{MayMake, Gives, is_silent, stays}
 use Rattle.script_plays.specs.Scenes.{Scene, first_scene, rest_of, sum_below, number_of, settled_over, settled, turned}
-use Rattle.script_plays.specs.Plays.{Goes, Plays, IsPlay, IsPlayTo, IsWhole, Ends}
+use Rattle.script_plays.specs.Plays.{Goes, Plays, IsPlay, IsWhole, Ends}
 use Rattle.script_plays.specs.Laws.{PlaysAreBounded, PlaysCanBeFinished}
-use Rattle.script_plays.proofs.Scened.{plays_more}
 
 -- sums
 sum_le : (f g : ℕ → ℕ) (n : ℕ) → ((t : ℕ) → f t ≤ g t) → sum_below f n ≤ sum_below g n
@@ -83,10 +80,10 @@ rank_phase : (k a b p q : ℕ) → a ≤ b → p < q → (2 * k + 1) * a + p < (
 rank_phase k a b p q le less = let times = mul-le-mul_left (2 * k + 1) le in omega (arith, times)
 
 -- put
-put_here : {A : Type 0} (f : ℕ → A) (k : ℕ) (x : A) → put f k x k ≡ x
+pub put_here : {A : Type 0} (f : ℕ → A) (k : ℕ) (x : A) → put f k x k ≡ x
 put_here f k x = ap (λ b. cond b x (f k)) (eq-eqb k k refl)
 
-put_other : {A : Type 0} (f : ℕ → A) (k : ℕ) (x : A) (j : ℕ) → j ≢ k → put f k x j ≡ f j
+pub put_other : {A : Type 0} (f : ℕ → A) (k : ℕ) (x : A) (j : ℕ) → j ≢ k → put f k x j ≡ f j
 put_other f k x j ne = ap (λ b. cond b x (f j)) (ne_eqb j k ne)
 
 -- settling plays lines of its thread alone
@@ -107,7 +104,7 @@ module _ (n : ℕ) (xs : List Line) (t : ℕ) where
         | false ↦ omega arith
       ]
 
-  turned-other : (turn : Turn) (played : ℕ → ℕ) (u : ℕ) → u ≢ t → settled n xs t (turned turn t played) u ≡ played u
+  pub turned-other : (turn : Turn) (played : ℕ → ℕ) (u : ℕ) → u ≢ t → settled n xs t (turned turn t played) u ≡ played u
   turned-other Stays played u ne = over-other (rest_of xs played t) played u ne
   turned-other Next played u ne = over-other (rest_of xs (put played t (suc (played t))) t) (put played t (suc (played t))) u ne ∙ put_other played t (suc (played t)) u ne
 

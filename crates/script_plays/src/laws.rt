@@ -1,4 +1,5 @@
 //! Laws of plays.
+ghost use Rattle.script_plays.specs.Reduced.{StuckPlaysAreReduced, ReducedPlaysDecide};
 ghost use Rattle.script_plays.specs.Laws.{PlaysAreLegal, PlaysHaveOneScene, EndsExcludesStuck, PlaysAreBounded, PlaysCanBeFinished};
 
 /// A play is a legal list of events.
@@ -24,4 +25,14 @@ pub fn plays_are_bounded()
 /// Where each play is whole or can go on, each is the beginning of a whole one.
 pub fn plays_can_be_finished()
     ensures { PlaysCanBeFinished }
+{}
+
+/// If a play gets stuck, so does one in which events that may be looked at alone are, whichever of them is picked in a scene.
+pub fn stuck_plays_are_reduced()
+    ensures { StuckPlaysAreReduced }
+{}
+
+/// Where each of those is whole or can go on, each play is.
+pub fn reduced_plays_decide()
+    ensures { ReducedPlaysDecide }
 {}

@@ -11,6 +11,7 @@ pub mod Choosing
 pub mod Expanding
 pub mod Tells
 pub mod Starting
+pub mod Surveying
 pub mod Searching
 pub mod Stepping
 pub mod Tracing

@@ -6,6 +6,7 @@ pub mod Keys
 pub mod Founds
 pub mod Moves
 pub mod Tries
+pub mod Surveys
 pub mod Explored
 pub mod Firsts
 pub mod Searches

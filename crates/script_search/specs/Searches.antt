@@ -9,7 +9,7 @@ use Rattle.script_search.specs.Founds.{moments_of}
 use Rattle.script_search.specs.Seen.{IsClosed, IsAlive}
 use Rattle.script_search.specs.Tries.{IsSound, IsAt}
 
--- the first n boards are looked at: all scenes to which they lead are there, and each is whole or goes on
+-- the first n boards are looked at: the scenes to which they lead are there, as many as need be, and each is whole or goes on
 pub record Searched (l : Layout) (xs : List Line) (limit : ℕ) (f : Found) (n : ℕ) : Type 0 where
   pub sound : IsSound l xs f
   pub limit_is : f.limit ≡ limit

@@ -5,6 +5,7 @@ use Rattle.larch_actions.specs.declared.event.Layout.{Layout}
 use Rattle.script_text.specs.declared.line.Line.{Line}
 use Rattle.script_plays.specs.Scenes.{Scene, first_scene}
 use Rattle.script_plays.specs.Plays.{Goes, GoesOn, AllFinished}
+use Rattle.script_plays.specs.Reduced.{IsLookedAround}
 use Rattle.script_search.specs.Boards.{Moment, scene_of, IsBoard}
 
 -- one of the moments shows the scene
@@ -30,10 +31,9 @@ pub record IsSeen (l : Layout) (xs : List Line) (ms : List Moment) (parents : Li
   pub linked : (k : ℕ) (m : Moment) → slice_get ms k ≡ Some m → 0 < k → IsChild l xs ms parents k m
   pub distinct : (i k : ℕ) (m n : Moment) → slice_get ms i ≡ Some m → slice_get ms k ≡ Some n → i < k → scene_of m ≢ scene_of n
 
--- all scenes to which one of the first n leads are there
+-- all scenes to which one of the first n leads are there, or one after an event that may be looked at alone
 abbrev pub IsClosed : Layout → List Line → List Moment → ℕ → Type 0
-IsClosed l xs ms n =
-    (k : ℕ) (m : Moment) → k < n → slice_get ms k ≡ Some m → (e : Event) (s : Scene) → Goes l xs (scene_of m) e s → HasScene ms s
+IsClosed l xs ms n = (k : ℕ) (m : Moment) → k < n → slice_get ms k ≡ Some m → IsLookedAround l xs (HasScene ms) (scene_of m)
 
 -- in each of the first n all threads are finished, or some event leads on
 abbrev pub IsAlive : Layout → List Line → List Moment → ℕ → Type 0

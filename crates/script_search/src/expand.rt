@@ -3,8 +3,10 @@ ghost use Rattle.std.specs.Prelude.{◌≡◌, ◌<◌, ◌≤◌, ◌||◌, ℕ
 ghost use Rattle.script_text.specs.Text.{IsScript};
 ghost use Rattle.script_text.specs.Runs.{event, lines_of};
 ghost use Rattle.script_plays.specs.declared.choice.Choice.{Choice};
+ghost use Rattle.script_plays.specs.Scenes.{Scene};
+ghost use Rattle.script_plays.specs.Plays.{Goes};
 ghost use Rattle.script_search.specs.declared.found.Stop.TheVariants as Stop;
-ghost use Rattle.script_search.specs.Boards.{moment_of, played_of, IsBoard};
+ghost use Rattle.script_search.specs.Boards.{moment_of, scene_of, played_of, IsBoard};
 ghost use Rattle.script_search.specs.Tries.{IsSound, IsAt, Tries, Exceeds, MayTry, MayTryAll, IsTried, AreTried, MaySignal, Leaves};
 ghost use Rattle.larch_actions.specs.Sets.{in_set};
 
@@ -25,8 +27,8 @@ pub struct Node<'a> {
     pub thread: u32,
 }
 
-// Tries one choice of the thread, and says whether it may make it.
-fn attempt(
+/// Tries one choice of the thread, and says whether it may make it.
+pub fn attempt(
     alloc: Global,
     plan: &Plan,
     found: &mut Found,
@@ -39,6 +41,9 @@ fn attempt(
     requires may { MayTry plan.now.layout plan.now.lines (moment_of node.now.board.now) node.now.thread choice.now }
     ensures ok { IfOk result (Tries plan.now.layout plan.now.lines found.old found.new (moment_of node.now.board.now)
         (λ e. e ≡ event node.now.thread choice.now.action)) }
+    ensures goes { IfOk result (λ moves. moves ≡ true
+        → (s : Scene) × Goes plan.now.layout plan.now.lines (scene_of (moment_of node.now.board.now))
+        (event node.now.thread choice.now.action) s) }
     ensures full { IfErr result (λ stop. stop ≡ Stop.Limit → Exceeds plan.now.layout plan.now.lines found.old.limit) }
 {
     let next = match next_scenes(alloc, plan, node.board, node.thread, choice)? {

@@ -34,8 +34,8 @@ fn members(plan: &Plan, board: &Board, cond: u32) -> ThreadSet
     set
 }
 
-// The choices of a thread after its last line.
-fn last_choices(version: Version) -> Choices
+/// The choices of a thread after its last line.
+pub fn last_choices(version: Version) -> Choices
     ensures { result ≡ three (last_choices version) }
 {
     match version {
