@@ -1,11 +1,11 @@
 -- The statuses and their causes.
-use Rattle.std.proofs.Common.{◌≡◌, ◌≢◌, ◌⊎◌, inl, inr, ℕ, List, refl, sym, ap, subst}
+use Rattle.std.proofs.Common.{◌≡◌, ◌≢◌, inl, inr, ℕ, List, refl, sym, ap, subst}
+use Rattle.exact_text.specs.declared.fault.TextFault.{TextFault}
+use Rattle.exact_text.specs.declared.fault.TextFault.TheVariants as fault
 use Rattle.larch_actions.specs.declared.event.Layout.{Layout}
 use Rattle.trace_core.specs.Text.{ReadsAs}
 use Rattle.trace_core.specs.Whole.{numbered}
 use Rattle.script_text.specs.declared.line.Line.{Line}
-use Rattle.script_text.specs.declared.script.ScriptFault.{ScriptFault}
-use Rattle.script_text.specs.declared.script.ScriptFault.TheVariants as script
 use Rattle.script_plays.specs.Plays.{Ends}
 use Rattle.script_plays.proofs.Scened.{plays_are_legal}
 use Rattle.script_search.specs.declared.explorer.Stuck.{Stuck as Found}
@@ -15,8 +15,9 @@ use Rattle.command_endings.specs.declared.status.Status.{Status}
 use Rattle.command_endings.specs.declared.status.Status.TheVariants.{Done, Usage, ReadFault, SinkFault, Stopped, Memory, Illegal, BadText, TooMany, TooLong}
 use Rattle.command_endings.specs.Changes.{Change, IsStill, GetsPrefix, Notes}
 use Rattle.command_endings.specs.Messages.{memory_message, output_fault_message}
+use Rattle.command_endings.specs.Endings.{SaysFault}
 use Rattle.command_endings.specs.Printing.{Prints}
-use Rattle.command_script.specs.Refusals.{IsRead, Refuses, SaysFault}
+use Rattle.command_script.specs.Refusals.{IsRead, Refuses}
 use Rattle.command_explore.specs.declared.stuck.ExploreStatus.{ExploreStatus}
 use Rattle.command_explore.specs.declared.stuck.ExploreStatus.TheVariants.{Stuck, As}
 use Rattle.command_explore.specs.Messages.{ends_line}
@@ -77,14 +78,14 @@ gets_stuck l xs s text at reads said = record {
 }
 
 -- what is answered where no script was read
-pub refused_answers : (limit : ℕ) (input out notes : Change) (fault : ScriptFault) (status : Status) → Refuses input fault → IsStill out → SaysFault fault notes status → Answers limit input out notes (As status)
-refused_answers limit input out notes (script.BadLine k) status why still said = subst (λ (s : Status). Answers limit input out notes (As s)) (sym said.0) (k, why, still, said.1)
-refused_answers limit input out notes script.TooLong status why still said = subst (λ (s : Status). Answers limit input out notes (As s)) (sym said.0) (why, still, said.1)
-refused_answers limit input out notes script.Read status why still said = subst (λ (s : Status). Answers limit input out notes (As s)) (sym said.0) (why, still, said.1)
-refused_answers limit input out notes script.Memory status why still said = subst (λ (s : Status). Answers limit input out notes (As s)) (sym said.0) (still, said.1)
+pub refused_answers : (limit : ℕ) (input out notes : Change) (f : TextFault) (status : Status) → Refuses input f → IsStill out → SaysFault f notes status → Answers limit input out notes (As status)
+refused_answers limit input out notes (fault.BadLine k) status why still said = subst (λ (s : Status). Answers limit input out notes (As s)) (sym said.0) (k, why, still, said.1)
+refused_answers limit input out notes fault.TooLong status why still said = subst (λ (s : Status). Answers limit input out notes (As s)) (sym said.0) (why, still, said.1)
+refused_answers limit input out notes fault.Read status why still said = subst (λ (s : Status). Answers limit input out notes (As s)) (sym said.0) (why, still, said.1)
+refused_answers limit input out notes fault.Memory status why still said = subst (λ (s : Status). Answers limit input out notes (As s)) (sym said.0) (still, said.1)
 
-pub refused_tells : (input notes : Change) (fault : ScriptFault) (status : Status) → SaysFault fault notes status → (fault ≢ script.Read → input.now ≡ input.before) → ReportsFault input (As status)
-refused_tells input notes (script.BadLine k) status said otherwise unread = otherwise (λ e. cc)
-refused_tells input notes script.TooLong status said otherwise unread = otherwise (λ e. cc)
-refused_tells input notes script.Read status said otherwise unread = absurd (unread (ap As said.0))
-refused_tells input notes script.Memory status said otherwise unread = otherwise (λ e. cc)
+pub refused_tells : (input notes : Change) (f : TextFault) (status : Status) → SaysFault f notes status → (f ≢ fault.Read → input.now ≡ input.before) → ReportsFault input (As status)
+refused_tells input notes (fault.BadLine k) status said otherwise unread = otherwise (λ e. cc)
+refused_tells input notes fault.TooLong status said otherwise unread = otherwise (λ e. cc)
+refused_tells input notes fault.Read status said otherwise unread = absurd (unread (ap As said.0))
+refused_tells input notes fault.Memory status said otherwise unread = otherwise (λ e. cc)

@@ -1,19 +1,18 @@
 -- What the program answers.
-use Rattle.std.specs.Prelude.{◌≡◌, ◌⊎◌, ℕ, ◌+◌, List, length}
+use Rattle.std.specs.Prelude.{◌≡◌, ◌⊎◌, ℕ, ◌+◌, List}
+use Rattle.exact_text.specs.declared.fault.TextFault.TheVariants as fault
 use Rattle.larch_actions.specs.declared.event.Layout.{Layout}
 use Rattle.larch_actions.specs.declared.event.Event.{Event}
 use Rattle.larch_actions.specs.Actions.{IsRun}
 use Rattle.trace_core.specs.Text.{ReadsAs, trace_text}
 use Rattle.trace_core.specs.Whole.{numbered}
 use Rattle.script_text.specs.declared.line.Line.{Line}
-use Rattle.script_text.specs.declared.script.ScriptFault.TheVariants as script
 use Rattle.script_plays.specs.Scenes.{Scene}
 use Rattle.script_plays.specs.Plays.{IsPlayTo, IsStuck, Ends}
 use Rattle.script_search.specs.declared.explorer.Stuck.{Stuck as Found}
 use Rattle.script_search.specs.Explored.{AreNumbers}
 use Rattle.script_search.specs.Tries.{Exceeds}
-use Rattle.command_endings.specs.declared.status.Status.{Status}
-use Rattle.command_endings.specs.declared.status.Status.TheVariants.{Done, Usage, ReadFault, SinkFault, Stopped, Memory, Illegal, BadText, TooMany, TooLong}
+use Rattle.command_endings.specs.declared.status.Status.TheVariants.{Done, Usage, ReadFault, SinkFault, Stopped, Memory, BadText, TooLong}
 use Rattle.command_endings.specs.Changes.{Change, IsStill, Gets, GetsPrefix, Notes}
 use Rattle.command_endings.specs.Messages.{input_fault_message, output_fault_message, bad_line_message, memory_message, too_long_message}
 use Rattle.command_script.specs.Refusals.{IsRead, Refuses}
@@ -58,9 +57,9 @@ Explores limit l xs out notes (As status) = ⊥
 
 -- the cause of each status
 abbrev pub Answers : ℕ → Change → Change → Change → ExploreStatus → Type 0
-Answers limit input out notes (As BadText) = (k : ℕ) × Refuses input (script.BadLine k) × IsStill out × Notes notes (bad_line_message k)
-Answers limit input out notes (As TooLong) = Refuses input script.TooLong × IsStill out × Notes notes too_long_message
-Answers limit input out notes (As ReadFault) = Refuses input script.Read × IsStill out × Notes notes input_fault_message
+Answers limit input out notes (As BadText) = (k : ℕ) × Refuses input (fault.BadLine k) × IsStill out × Notes notes (bad_line_message k)
+Answers limit input out notes (As TooLong) = Refuses input fault.TooLong × IsStill out × Notes notes too_long_message
+Answers limit input out notes (As ReadFault) = Refuses input fault.Read × IsStill out × Notes notes input_fault_message
 Answers limit input out notes (As Memory) = IsStill out × Notes notes memory_message
 Answers limit input out notes status =
     (l : Layout) × (xs : List Line) × IsRead input l xs × Explores limit l xs out notes status

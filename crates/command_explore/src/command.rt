@@ -18,8 +18,7 @@ use crate::report::report;
 use crate::stuck::ExploreStatus;
 use crate::words::read_limit;
 use arrayvec::ArrayString;
-use command_endings::{Ending, Status, ends, print, say};
-use command_script::ends_refused;
+use command_endings::{Ending, Status, ends, ends_unread, print, say};
 use firefly_outside::{Sink, SinkFault, Source};
 use script_search::{Answer, Stop, Stuck, explore};
 use script_text::{Script, read_script};
@@ -167,7 +166,7 @@ fn explore_limited<I: Source, O: Sink, N: Sink>(
 {
     match read_script(alloc, input) {
         Ok(script) => explore_read(alloc, &script, limit, out, notes),
-        Err(fault) => ExploreStatus::As(ends_refused(notes, fault)),
+        Err(fault) => ExploreStatus::As(ends_unread(notes, fault)),
     }
 }
 

@@ -1,10 +1,6 @@
-//! How a command ends whose input is no script.
+//! What a command promises of an input that is to be a script.
 //!
-//! Promises: each reason why a script isn't read has its status and its message. The definitions say too which status the bytes of an
-//! input decide, for any command that reads a script (specs/Decided.antt).
-//! Stands on script_text and command_endings. It knows nothing of what is done with a script.
+//! Promises: the definitions say when an input is read as a script, why another isn't (specs/Refusals.antt), and which status the bytes of
+//! an input decide, for any command that reads a script (specs/Decided.antt); the lemmas prove that for each answer of `read_script`.
+//! Stands on script_text and command_endings. It has no code, and knows nothing of what is done with a script.
 #![tactic(auto)]
-
-mod refusal;
-
-pub use refusal::ends_refused;

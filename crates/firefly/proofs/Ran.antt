@@ -1,22 +1,20 @@
--- The numbers of the mutexes, and the status for the bytes of an input.
-use Rattle.std.proofs.Common.{◌≡◌, ◌≢◌, ◌⊎◌, ℕ, zero, suc, ◌+◌, ◌<◌, ◌≤◌, List, [], ◌∷◌, length, get_or, refl, ap, sym, ◌∙◌, subst, inl, inr, Some, IfSome, Option, arith}
+-- The numbers of the mutexes, and the status of a run.
+use Rattle.std.proofs.Common.{◌≡◌, ◌≢◌, ℕ, zero, suc, ◌+◌, ◌<◌, List, [], ◌∷◌, length, get_or, refl, ap, sym, ◌∙◌, subst, inl, inr, Some, Option, arith}
 use Rattle.larch_actions.specs.declared.event.Event.{Event}
 use Rattle.larch_actions.specs.Actions.{IsClosed, by_thread}
 use Rattle.trace_core.specs.Text.{MutexValue, ReadsAs, trace_text}
 use Rattle.trace_core.specs.Whole.{numbered}
 use Rattle.larch_actions.specs.declared.event.Layout.{Layout}
 use Rattle.script_text.specs.declared.line.Line.{Line}
-use Rattle.script_text.specs.declared.script.ScriptFault.{ScriptFault}
-use Rattle.script_text.specs.declared.script.ScriptFault.TheVariants as script
-use Rattle.script_text.specs.Layouts.{head_lines}
-use Rattle.script_text.specs.Faults.{IsBadLine, IsTooLong}
+use Rattle.exact_text.specs.declared.fault.TextFault.{TextFault}
+use Rattle.exact_text.specs.declared.fault.TextFault.TheVariants as fault
 use Rattle.script_text.specs.Runs.{AreEventsOf, total}
-use Rattle.script_text.specs.Text as text
-use Rattle.script_text.proofs.Answered.{one_answer}
 use Rattle.command_endings.specs.declared.status.Status.{Status}
-use Rattle.command_endings.specs.declared.status.Status.TheVariants.{Done, SinkFault, Memory, BadText, TooLong}
+use Rattle.command_endings.specs.declared.status.Status.TheVariants.{Memory}
 use Rattle.command_endings.specs.Changes.{Change, IsStill}
-use Rattle.firefly.specs.RunCommand.{totals_from, IsTraceOf, RunAnswers, Runs, Refuses, Decides, SaysFault}
+use Rattle.command_endings.specs.Endings.{SaysFault}
+use Rattle.command_script.specs.Refusals.{Refuses}
+use Rattle.firefly.specs.RunCommand.{totals_from, IsTraceOf, RunAnswers, Runs, IsOwn}
 
 pub numbered_totals : (xs : List Line) (k n : ℕ) (vs : List ℕ) → length vs ≡ n → ((m : ℕ) → m < n → get_or vs m 0 ≡ total xs (k + m)) → numbered k vs ≡ totals_from k n xs
 numbered_totals xs k zero [] size each = refl
@@ -59,52 +57,15 @@ is_trace k l xs h vs bytes same size each reads closed own =
       own = own;
     }
 
--- what the option has, where it is known
-pub known : {A : Type 0} (P : A → Type 0) (o : Option A) (x : A) → o ≡ Some x → IfSome o P → P x
-known P o x e h = subst (λ z. IfSome z P) e h
-
-module _ (input out notes : Change) (l : Layout) (xs : List Line) (status : Status) (few : head_lines l.version + length xs ≤ 100000) (whole : IfSome input.old (λ bytes. text.ReadsAs bytes l xs)) where
-  ended : Runs l xs out notes status → status ≢ Memory → (status ≡ Done) ⊎ (status ≡ SinkFault)
-  ended (inl (bytes, trace, inl p)) some = inl p.0
-  ended (inl (bytes, trace, inr p)) some = inr p.0
-  ended (inr m) some = absurd (some m.0)
-
-  pub ran_decides : Runs l xs out notes status → Decides input status
-  ran_decides runs bytes reported read some =
-      let text = known (λ b. text.ReadsAs b l xs) input.old bytes reported whole in
-      record {
-        done = λ short. ended runs some;
-        bad_line = λ k bad long. absurd (one_answer.text_or_bad bytes k (l, xs, text, few) bad);
-        too_long = λ long. absurd (one_answer.text_or_long bytes (l, xs, text, few) long);
-      }
-
-bad_line_decides : (input : Change) (k : ℕ) → Refuses input (script.BadLine k) → Decides input BadText
-bad_line_decides input k h bytes reported read some =
-    let b = known (λ i. IsBadLine i k × (IsTooLong i → ⊥)) input.old bytes reported h in
-    record {
-      done = λ short. absurd (one_answer.text_or_bad bytes k short b.0);
-      bad_line = λ j bad long. refl;
-      too_long = λ long. absurd (b.1 long);
-    }
-
-too_long_decides : (input : Change) → Refuses input script.TooLong → Decides input TooLong
-too_long_decides input h bytes reported read some =
-    let t = known IsTooLong input.old bytes reported h in
-    record {
-      done = λ short. absurd (one_answer.text_or_long bytes short t);
-      bad_line = λ k bad long. absurd (long t);
-      too_long = λ long. refl;
-    }
+-- the statuses of a run
+pub ran_own : (l : Layout) (xs : List Line) (out notes : Change) (status : Status) → Runs l xs out notes status → status ≢ Memory → IsOwn status
+ran_own l xs out notes status (inl (bytes, trace, inl p)) some = inl p.0
+ran_own l xs out notes status (inl (bytes, trace, inr p)) some = inr p.0
+ran_own l xs out notes status (inr m) some = absurd (some m.0)
 
 -- what is answered where no script was read
-pub refused_answers : (input out notes : Change) (fault : ScriptFault) (status : Status) → Refuses input fault → IsStill out → SaysFault fault notes status → RunAnswers input out notes status
-refused_answers input out notes (script.BadLine k) status why still said = subst (λ (s : Status). RunAnswers input out notes s) (sym said.0) (k, why, still, said.1)
-refused_answers input out notes script.TooLong status why still said = subst (λ (s : Status). RunAnswers input out notes s) (sym said.0) (why, still, said.1)
-refused_answers input out notes script.Read status why still said = subst (λ (s : Status). RunAnswers input out notes s) (sym said.0) (why, still, said.1)
-refused_answers input out notes script.Memory status why still said = subst (λ (s : Status). RunAnswers input out notes s) (sym said.0) (still, said.1)
-
-pub refused_decides : (input notes : Change) (fault : ScriptFault) (status : Status) → Refuses input fault → SaysFault fault notes status → Decides input status
-refused_decides input notes (script.BadLine k) status why said = subst (Decides input) (sym said.0) (bad_line_decides input k why)
-refused_decides input notes script.TooLong status why said = subst (Decides input) (sym said.0) (too_long_decides input why)
-refused_decides input notes script.Read status why said = λ bytes reported read some. absurd (read said.0)
-refused_decides input notes script.Memory status why said = λ bytes reported read some. absurd (some said.0)
+pub refused_answers : (input out notes : Change) (f : TextFault) (status : Status) → Refuses input f → IsStill out → SaysFault f notes status → RunAnswers input out notes status
+refused_answers input out notes (fault.BadLine k) status why still said = subst (λ (s : Status). RunAnswers input out notes s) (sym said.0) (k, why, still, said.1)
+refused_answers input out notes fault.TooLong status why still said = subst (λ (s : Status). RunAnswers input out notes s) (sym said.0) (why, still, said.1)
+refused_answers input out notes fault.Read status why still said = subst (λ (s : Status). RunAnswers input out notes s) (sym said.0) (why, still, said.1)
+refused_answers input out notes fault.Memory status why still said = subst (λ (s : Status). RunAnswers input out notes s) (sym said.0) (still, said.1)

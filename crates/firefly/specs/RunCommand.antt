@@ -1,21 +1,18 @@
 -- The results of the command `run`.
-use Rattle.std.specs.Prelude.{◌≡◌, ◌≢◌, ◌⊎◌, ℕ, zero, suc, ◌+◌, ◌<◌, ◌≤◌, List, [], ◌∷◌, length, Some, IfSome}
-use Rattle.std.specs.Io.KnownBytes.{IsAtEnd}
+use Rattle.std.specs.Prelude.{◌≡◌, ◌⊎◌, ℕ, zero, suc, ◌+◌, ◌<◌, List, [], ◌∷◌}
 use Rattle.larch_actions.specs.declared.event.Layout.{Layout}
 use Rattle.larch_actions.specs.declared.event.Event.{Event}
 use Rattle.larch_actions.specs.Actions.{by_thread}
 use Rattle.trace_core.specs.Text.{MutexValue}
 use Rattle.script_text.specs.declared.line.Line.{Line}
-use Rattle.script_text.specs.declared.script.ScriptFault.{ScriptFault}
-use Rattle.script_text.specs.declared.script.ScriptFault.TheVariants as script
-use Rattle.script_text.specs.Layouts.{head_lines}
-use Rattle.script_text.specs.Faults.{HasReason, IsBadLine, IsTooLong, IsShortText}
+use Rattle.exact_text.specs.declared.fault.TextFault.TheVariants as fault
 use Rattle.script_text.specs.Runs.{AreEventsOf, total}
-use Rattle.script_text.specs.Text as text
 use Rattle.command_endings.specs.declared.status.Status.{Status}
 use Rattle.command_endings.specs.declared.status.Status.TheVariants.{Done, Usage, ReadFault, SinkFault, Stopped, Memory, Illegal, BadText, TooMany, TooLong}
 use Rattle.command_endings.specs.Changes.{Change, IsStill, Gets, GetsPrefix, Notes}
 use Rattle.command_endings.specs.Printing.{Prints}
+use Rattle.command_script.specs.Refusals.{IsRead, Refuses}
+use Rattle.command_script.specs.Decided as decided
 use Rattle.command_check.specs.Traces.{IsClosedTrace}
 use Rattle.command_endings.specs.Messages.{input_fault_message, output_fault_message, bad_line_message, memory_message, too_long_message}
 
@@ -35,22 +32,8 @@ pub record IsTraceOf (l : Layout) (xs : List Line) (bytes : List ℕ) : Type 0 w
 pub record IsRunOf (input : Change) (bytes : List ℕ) : Type 0 where
   pub layout : Layout
   pub lines : List Line
-  pub rules : text.IsScript layout lines
-  pub few : head_lines layout.version + length lines ≤ 100000
-  pub whole : IfSome input.old (λ given. text.ReadsAs given layout lines)
-  pub end : IsAtEnd input.new
+  pub read : IsRead input layout lines
   pub trace : IsTraceOf layout lines bytes
-
--- why the script isn't read
-abbrev pub Refuses : Change → ScriptFault → Type 0
-Refuses input fault = HasReason input.old input.new input.before input.now fault
-
--- the status and the message of each reason
-abbrev pub SaysFault : ScriptFault → Change → Status → Type 0
-SaysFault (script.BadLine k) notes status = (status ≡ BadText) × Notes notes (bad_line_message k)
-SaysFault script.TooLong notes status = (status ≡ TooLong) × Notes notes too_long_message
-SaysFault script.Read notes status = (status ≡ ReadFault) × Notes notes input_fault_message
-SaysFault script.Memory notes status = (status ≡ Memory) × Notes notes memory_message
 
 -- the run of a script ended and its trace was printed, or memory ran out
 abbrev pub Runs : Layout → List Line → Change → Change → Status → Type 0
@@ -62,23 +45,20 @@ Runs l xs out notes answer =
 abbrev pub RunAnswers : Change → Change → Change → Status → Type 0
 RunAnswers input out notes Done = (bytes : List ℕ) × IsRunOf input bytes × Gets out bytes × IsStill notes
 RunAnswers input out notes SinkFault = (bytes : List ℕ) × IsRunOf input bytes × GetsPrefix out bytes × Notes notes output_fault_message
-RunAnswers input out notes BadText = (k : ℕ) × Refuses input (script.BadLine k) × IsStill out × Notes notes (bad_line_message k)
-RunAnswers input out notes TooLong = Refuses input script.TooLong × IsStill out × Notes notes too_long_message
-RunAnswers input out notes ReadFault = Refuses input script.Read × IsStill out × Notes notes input_fault_message
+RunAnswers input out notes BadText = (k : ℕ) × Refuses input (fault.BadLine k) × IsStill out × Notes notes (bad_line_message k)
+RunAnswers input out notes TooLong = Refuses input fault.TooLong × IsStill out × Notes notes too_long_message
+RunAnswers input out notes ReadFault = Refuses input fault.Read × IsStill out × Notes notes input_fault_message
 RunAnswers input out notes Memory = IsStill out × Notes notes memory_message
 RunAnswers input out notes Usage = ⊥
 RunAnswers input out notes Stopped = ⊥
 RunAnswers input out notes Illegal = ⊥
 RunAnswers input out notes TooMany = ⊥
 
--- the status for an input of these bytes, if no read failed and memory sufficed: a script is run,
--- and a bad line or an input that is too long is reported
-pub record IsExact (bytes : List ℕ) (status : Status) : Type 0 where
-  pub done : IsShortText bytes → (status ≡ Done) ⊎ (status ≡ SinkFault)
-  pub bad_line : (k : ℕ) → IsBadLine bytes k → (IsTooLong bytes → ⊥) → status ≡ BadText
-  pub too_long : IsTooLong bytes → status ≡ TooLong
+-- the statuses of a script
+abbrev pub IsOwn : Status → Type 0
+IsOwn status = (status ≡ Done) ⊎ (status ≡ SinkFault)
 
--- if the bytes of the input are known they decide, unless a read or the sink failed or memory ran
--- out
+-- if the bytes of the input are known they decide, unless a read failed or memory ran out: a script is run, and a bad line or an input
+-- that is too long is reported
 abbrev pub Decides : Change → Status → Type 0
-Decides input status = (bytes : List ℕ) → input.old ≡ Some bytes → status ≢ ReadFault → status ≢ Memory → IsExact bytes status
+Decides input status = decided.Decides (λ s. s) IsOwn input status

@@ -19,5 +19,5 @@ pub use command_endings::{Ending, Status, ends, number};
 pub use index_sample::{SampleSums, index_summary};
 pub use outside::{system_trees, system_words};
 pub use script_run::run_script;
-pub use script_text::{Script, ScriptFault, read_script};
+pub use script_text::{Script, read_script};
 pub use top::firefly;

@@ -2,14 +2,14 @@
 ghost use Rattle.script_text.specs.Text.{IsScript};
 ghost use Rattle.command_endings.specs.Changes.{change_of};
 ghost use Rattle.command_endings.specs.Endings.{ReportsFault};
-ghost use Rattle.firefly.specs.RunCommand.{RunAnswers, Runs, Decides, SaysFault};
+ghost use Rattle.firefly.specs.RunCommand.{RunAnswers, Runs, Decides};
 
 use crate::print_trace::print_trace;
-use command_endings::{Ending, Status, ends};
+use command_endings::{Ending, Status, ends, ends_unread};
 use firefly_outside::{Sink, Source};
 use package_crew::BeginsAtOnce;
 use script_run::run_script;
-use script_text::{Script, ScriptFault, read_script};
+use script_text::{Script, read_script};
 use std::alloc::Global;
 use std::sync::Wait;
 use std::thread::Threads;
@@ -36,18 +36,6 @@ fn run_read<R: Threads + Wait + Sync, O: Sink, N: Sink>(
     }
 }
 
-// Prints why no script was read, and returns the status of that fault.
-fn status_of<N: Sink>(notes: &mut N, fault: ScriptFault) -> Status
-    ensures { SaysFault fault (change_of N.held N.faults notes.old notes.new) result }
-{
-    match fault {
-        ScriptFault::BadLine(line) => ends(notes, Ending::BadLine(line)),
-        ScriptFault::TooLong => ends(notes, Ending::TooLong),
-        ScriptFault::Read => ends(notes, Ending::InputFault),
-        ScriptFault::Memory => ends(notes, Ending::Memory),
-    }
-}
-
 /// Runs the script that the input is, and prints the trace of the run. Returns the status.
 pub fn run_input<R: Threads + Wait + Sync, I: Source, O: Sink, N: Sink>(
     rt: &R,
@@ -63,6 +51,6 @@ pub fn run_input<R: Threads + Wait + Sync, I: Source, O: Sink, N: Sink>(
 {
     match read_script(alloc, input) {
         Ok(script) => run_read(rt, alloc, &script, out, notes),
-        Err(fault) => status_of(notes, fault),
+        Err(fault) => ends_unread(notes, fault),
     }
 }

@@ -1,7 +1,6 @@
 -- The tables of who holds what, and of who was forked.
-use Rattle.std.proofs.Common.{◌≡◌, ◌↔◌, ℕ, zero, suc, ◌+◌, ◌*◌, ◌/◌, ◌%◌, ◌<◌, ◌⊎◌, inl, inr, List, [], ◌∷◌, length, get_or, replicate, refl, ap, sym, subst, ◌∙◌, Bool, true, false, arith}
+use Rattle.std.proofs.Common.{◌≡◌, ℕ, zero, suc, ◌+◌, ◌*◌, ◌/◌, ◌%◌, ◌<◌, ◌⊎◌, inl, inr, List, [], ◌∷◌, length, get_or, replicate, refl, ap, sym, subst, ◌∙◌, Bool, true, false, arith}
 use Rattle.std.proofs.lemmas.Bool.Decides.{eqb_tells}
-use Rattle.std.proofs.lemmas.Bool.{false≢true}
 use Rattle.std.proofs.lemmas.List.{length-replicate}
 use Rattle.std.specs.List.{list_all}
 use Rattle.std.specs.Prelude.{not}
@@ -15,9 +14,9 @@ use Rattle.script_text.specs.declared.table.Use.TheVariants.{Takes, Gives, Needs
 use Rattle.script_text.specs.declared.table.Fate.{Fate}
 use Rattle.script_text.specs.declared.table.Fate.TheVariants as fate
 use Rattle.script_text.specs.Table.{use_of, fate_of}
-use Rattle.script_text.proofs.Rows.{UseWithin, named_use}
-use Rattle.script_text.specs.Operations.{Holding, Forked, none_held, none_forked, held_if, holding_with, holding_after, held_after, forked_with, forked_after, is_born, MayMeet, MayLive, MayFollow, IsNamed, AllFree}
-use Rattle.script_text.specs.Held.{Shows, Marks}
+use Rattle.script_text.proofs.Rows.{named_use}
+use Rattle.script_text.specs.Operations.{Holding, Forked, none_held, none_forked, held_if, holding_with, holding_after, held_after, forked_with, forked_after, is_born, MayLive, MayFollow, IsNamed, AllFree}
+use Rattle.script_text.specs.Held.{Shows, Marks, UseWithin}
 
 -- what is held is within the layout
 abbrev pub IsWithin : Layout → Holding → Type 0
@@ -123,7 +122,7 @@ some_true [] e = absurd (cc)
 some_true (true ∷ xs) e = (0, omega arith, refl)
 some_true (false ∷ xs) e = let r = some_true xs e in (suc r.0, omega (arith, r.1), r.2)
 
-either_bool : (b : Bool) → (b ≡ true) ⊎ (b ≡ false)
+pub either_bool : (b : Bool) → (b ≡ true) ⊎ (b ≡ false)
 either_bool true = inl refl
 either_bool false = inr refl
 
@@ -148,12 +147,3 @@ free_to table h s free =
           let t = r.2 in
           absurd (cc)
     ]
-
--- in version two a thread that is there may do what it may meet
-pub live_two : (v : Version) (f : Forked) (t : ℕ) (x y : Fate) (A : Type 0) → v ≡ Two → x ≡ y → is_born f t ≡ true → (A ↔ MayMeet f t x) → A ↔ MayLive v f t y
-live_two v f t x y A e s b w =
-    subst (λ (u : Version). A ↔ MayLive u f t y) (sym e) (subst (λ (z : Fate). A ↔ MayLive Two f t z) s ((λ a. (b, w.0 a)), (λ k. w.1 k.1)))
-
--- and one that isn't may do nothing
-pub live_none : (v : Version) (f : Forked) (t : ℕ) (x : Fate) → v ≡ Two → is_born f t ≡ false → MayLive v f t x → ⊥
-live_none v f t x e b m = let k = subst (λ (u : Version). MayLive u f t x) e m in absurd (false≢true (sym b ∙ k.0))

@@ -1,5 +1,8 @@
 -- The tables of who holds what, and of who was forked.
 use Rattle.std.specs.Prelude.{◌≡◌, ℕ, ◌+◌, ◌*◌, ◌<◌, Bool, false, List, slice_index_or, length}
+use Rattle.larch_actions.specs.declared.event.Layout.{Layout}
+use Rattle.script_text.specs.declared.table.Use.{Use}
+use Rattle.script_text.specs.declared.table.Use.TheVariants.{Takes, Gives, Needs, Nothing}
 use Rattle.script_text.specs.declared.table.Fate.{Fate}
 use Rattle.script_text.specs.declared.table.Fate.TheVariants as fate
 use Rattle.script_text.specs.Operations.{Holding, Forked}
@@ -13,6 +16,13 @@ pub record Shows (table : List Bool) (h : Holding) : Type 0 where
 pub record Marks (table : List Bool) (f : Forked) : Type 0 where
   pub size : length table ≡ 256
   pub entry : (t : ℕ) → t < 256 → slice_index_or table t false ≡ f t
+
+-- the mutex is within the layout
+abbrev pub UseWithin : Layout → Use → Type 0
+UseWithin l (Takes m) = m.0 < l.mutexes
+UseWithin l (Gives m) = m.0 < l.mutexes
+UseWithin l (Needs m) = m.0 < l.mutexes
+UseWithin l Nothing = Unit {0}
 
 -- the thread has an entry
 abbrev pub FateWithin : Fate → Type 0

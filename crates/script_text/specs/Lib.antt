@@ -2,10 +2,11 @@ pub mod Layouts
 pub mod Table
 pub mod Operations
 pub mod Text
-pub mod Faults
+pub mod NextLine
+pub mod Heads
+pub mod Texts
 pub mod Seen
-pub mod Parsing
 pub mod Held
 pub mod Drafts
-pub mod Founds
+pub mod Finished
 pub mod Runs

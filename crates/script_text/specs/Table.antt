@@ -1,5 +1,5 @@
 -- The table of operations: for each its word, what stands after the word, and what it does with a mutex or a thread.
-use Rattle.std.specs.Prelude.{ℕ, ◌^◌, ◌<◌, ◌≤◌, List, [], ◌∷◌, ◌++◌, codes, decimal, slice_index}
+use Rattle.std.specs.Prelude.{ℕ, ◌^◌, ◌<◌, ◌≤◌, List, [], ◌∷◌, ◌++◌, codes, decimal, length, take, slice_index}
 use Rattle.larch_actions.specs.declared.event.Layout.{Layout}
 use Rattle.script_text.specs.declared.line.Operation.{Operation}
 use Rattle.script_text.specs.declared.line.Operation.TheVariants.{Acquire, Release, Wait, AlertWait, Signal, Broadcast, P, V, Alert, TestAlert, AlertP, Add, Until, AlertUntil, Fork, Join}
@@ -14,6 +14,12 @@ use Rattle.script_text.specs.declared.table.Use.{Use}
 use Rattle.script_text.specs.declared.table.Use.TheVariants.{Takes, Gives, Needs, Nothing}
 use Rattle.script_text.specs.declared.table.Fate.{Fate}
 use Rattle.script_text.specs.declared.table.Fate.TheVariants as fate
+
+-- all words
+abbrev pub words : List Word
+words =
+    word.Acquire ∷ word.Release ∷ word.Wait ∷ word.AlertWait ∷ word.Signal ∷ word.Broadcast ∷ word.P ∷ word.V
+    ∷ word.Alert ∷ word.TestAlert ∷ word.AlertP ∷ word.Add ∷ word.Until ∷ word.AlertUntil ∷ word.Fork ∷ word.Join ∷ []
 
 -- a word as it is spelt
 abbrev pub word_text : Word → List ℕ
@@ -163,6 +169,10 @@ operands_text (k ∷ ks) (n ∷ ns) = 32 ∷ (operand_text k n ++ operands_text 
 
 abbrev pub listed : Numbers → List ℕ
 listed x = x.first ∷ x.second ∷ x.third ∷ []
+
+-- those that stand after a word with these kinds
+abbrev pub first_of : List Operand → Numbers → List ℕ
+first_of ks x = take (length ks) (listed x)
 
 -- a name fits 32 bits
 abbrev pub IsSmall : Operand → ℕ → Type 0

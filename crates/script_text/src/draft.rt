@@ -1,18 +1,15 @@
 //! The lines of a script that were read so far.
-ghost use Rattle.std.specs.Prelude.{◌≡◌, ◌+◌, ◌*◌, ◌<◌, ◌≤◌, ◌↔◌, ℕ, IsTrue, IfOk, Ok, true, false, not, [], length};
+ghost use Rattle.std.specs.Prelude.{◌≡◌, ◌+◌, ◌*◌, ◌<◌, ◌↔◌, IsTrue, OnOk, true, not, []};
 ghost use Rattle.std.specs.List.{list_all};
 ghost use Rattle.larch_actions.specs.Layout.{IsLawful};
-ghost use Rattle.script_text.specs.Layouts.{head_lines};
-ghost use Rattle.script_text.specs.Operations.{Holding, Forked, IsNamed, MayDo, MayLive, MayMeet, is_born, holding_after, held_after, none_held, forked_with, AllFree};
-ghost use Rattle.script_text.specs.Table.{fate_of};
-ghost use Rattle.script_text.specs.Held.{Shows, Marks, FateWithin};
-ghost use Rattle.script_text.specs.Drafts.{IsDraft, Takes, NoneIs};
-ghost use Rattle.script_text.specs.Text.{line_text};
-ghost use Rattle.script_text.specs.declared.line.Line.{Line};
+ghost use Rattle.script_text.specs.Operations.{Holding, Forked, MayCome, is_born, holding_with, held_after, none_held, forked_with, AllFree};
+ghost use Rattle.script_text.specs.Table.{use_of, fate_of};
+ghost use Rattle.script_text.specs.Held.{Shows, Marks, UseWithin, FateWithin};
+ghost use Rattle.script_text.specs.NextLine.{lives, may_use, may_meet, may_do, may_stand_first, first_count};
+ghost use Rattle.script_text.specs.Drafts.{IsDraft, Takes, held_in, forked_in};
 
 use crate::line::{Line, Operation};
-use crate::parse;
-use crate::table::{Fate, Use, mutex_use, thread_fate};
+use crate::table::{Fate, Numbers, Use, Word, make, mutex_use, thread_fate};
 use larch_actions::{Layout, MutexId, Version};
 use std::alloc::{AllocError, Global};
 
@@ -37,30 +34,35 @@ fn entry(thread: u32, mutex: MutexId, layout: &Layout) -> usize
     64 * thread as usize + mutex.0 as usize
 }
 
-// Whether the thread may do this, and if so what is held then.
-fn step(held: &mut [bool], thread: u32, operation: &Operation, layout: &Layout) -> bool
+// Whether the thread may use the mutex so.
+fn may_use(held: &[bool], thread: u32, wanted: Use, layout: &Layout) -> bool
     requires lawful { IsLawful layout.now }
     requires thread { thread < layout.now.threads }
-    requires named { IsNamed layout.now operation.now }
-    requires shows { (h : Holding) × Shows held.old h }
-    ensures may { (h : Holding) → Shows held.old h → IsTrue result ↔ MayDo h thread operation.now }
-    ensures after { (h : Holding) → Shows held.old h → IsTrue result → Shows held.new (holding_after h thread operation.now) }
+    requires within { UseWithin layout.now wanted }
+    requires shows { (h : Holding) × Shows held.now h }
+    ensures { (h : Holding) → Shows held.now h → result ≡ may_use h thread wanted }
 {
-    match mutex_use(operation) {
-        Use::Takes(mutex) => {
-            let at = entry(thread, mutex, layout);
-            let may = !held[at];
-            held[at] = true;
-            may
-        }
-        Use::Gives(mutex) => {
-            let at = entry(thread, mutex, layout);
-            let may = held[at];
-            held[at] = false;
-            may
-        }
+    match wanted {
+        Use::Takes(mutex) => !held[entry(thread, mutex, layout)],
+        Use::Gives(mutex) => held[entry(thread, mutex, layout)],
         Use::Needs(mutex) => held[entry(thread, mutex, layout)],
         Use::Nothing => true,
+    }
+}
+
+// Notes that the thread has used it so.
+fn note_use(held: &mut [bool], thread: u32, used: Use, layout: &Layout)
+    requires lawful { IsLawful layout.now }
+    requires thread { thread < layout.now.threads }
+    requires within { UseWithin layout.now used }
+    requires shows { (h : Holding) × Shows held.old h }
+    ensures { (h : Holding) → Shows held.old h → Shows held.new (holding_with h thread used) }
+{
+    match used {
+        Use::Takes(mutex) => held[entry(thread, mutex, layout)] = true,
+        Use::Gives(mutex) => held[entry(thread, mutex, layout)] = false,
+        Use::Needs(_) => {}
+        Use::Nothing => {}
     }
 }
 
@@ -74,38 +76,35 @@ fn born(forked: &[bool], thread: u32) -> bool
     thread == 0 || forked[thread as usize]
 }
 
-// Whether a thread that is there may do this with a thread, and if so who was forked then.
-fn meets(forked: &mut [bool], thread: u32, fate: Fate) -> bool
+// Whether a thread that lives may do this with a thread.
+fn may_meet(forked: &[bool], version: Version, thread: u32, fate: Fate) -> bool
     requires few { FateWithin fate }
-    requires marks { (f : Forked) × Marks forked.old f }
-    ensures may { (f : Forked) → Marks forked.old f → IsTrue result ↔ MayMeet f thread fate }
-    ensures after { (f : Forked) → Marks forked.old f → IsTrue result → Marks forked.new (forked_with f fate) }
+    requires marks { (f : Forked) × Marks forked.now f }
+    ensures { (f : Forked) → Marks forked.now f → result ≡ may_meet version f thread fate }
 {
     match fate {
-        Fate::Begins(who) => {
-            let may = !born(forked, who.0);
-            forked[who.0 as usize] = true;
-            may
-        }
-        Fate::Awaits(who) => who.0 != thread && forked[who.0 as usize],
+        Fate::Begins(who) => match version {
+            Version::One => false,
+            Version::Two => !born(forked, who.0),
+        },
+        Fate::Awaits(who) => match version {
+            Version::One => false,
+            Version::Two => who.0 != thread && forked[who.0 as usize],
+        },
         Fate::Nothing => true,
     }
 }
 
-// Whether the thread may have a line that does this with a thread, and if so who was forked then.
-fn live(forked: &mut [bool], thread: u32, operation: &Operation, layout: &Layout) -> bool
-    requires lawful { IsLawful layout.now }
-    requires thread { thread < layout.now.threads }
-    requires named { IsNamed layout.now operation.now }
+// Notes that this was done with a thread.
+fn note_fate(forked: &mut [bool], fate: Fate)
+    requires few { FateWithin fate }
     requires marks { (f : Forked) × Marks forked.old f }
-    ensures may { (f : Forked) → Marks forked.old f
-        → IsTrue result ↔ MayLive layout.now.version f thread (fate_of operation.now) }
-    ensures after { (f : Forked) → Marks forked.old f → IsTrue result → Marks forked.new (forked_with f (fate_of operation.now)) }
+    ensures { (f : Forked) → Marks forked.old f → Marks forked.new (forked_with f fate) }
 {
-    let fate = thread_fate(operation);
-    match layout.version {
-        Version::One => matches!(fate, Fate::Nothing),
-        Version::Two => born(forked, thread) && meets(forked, thread, fate),
+    match fate {
+        Fate::Begins(who) => forked[who.0 as usize] = true,
+        Fate::Awaits(_) => {}
+        Fate::Nothing => {}
     }
 }
 
@@ -132,40 +131,63 @@ impl Draft {
         }
     }
 
-    /// Takes the line that the bytes are, where it may come next.
-    pub fn take(&mut self, bytes: &[u8]) -> Result<bool, AllocError>
-        requires { IsDraft self.old }
-        ensures taken { result ≡ Ok true → (x : Line) × (bytes.now ≡ line_text x) × Takes self.old self.new x }
-        ensures layout { self.new.layout ≡ self.old.layout }
-        ensures refused { result ≡ Ok false → NoneIs self.old.layout self.old.lines.items bytes.now }
-    {
-        let Some(line) = parse::line(bytes, &self.layout) else {
-            return Ok(false);
-        };
-        if !step(&mut self.held, line.thread.0, &line.operation, &self.layout) {
-            return Ok(false);
-        }
-        if !live(
-            &mut self.forked,
-            line.thread.0,
-            &line.operation,
-            &self.layout,
-        ) {
-            return Ok(false);
-        }
-        self.lines.push(line)?;
-        Ok(true)
-    }
-
-    /// How many lines were read, with those before the lines of the threads.
-    pub fn lines_read(&self) -> usize
-        requires { length self.now.lines.items ≤ 100000 }
-        ensures { result ≡ head_lines self.now.layout.version + length self.now.lines.items }
+    /// Whether the thread may have a line.
+    pub fn lives(&self, thread: u32) -> bool
+        requires draft { IsDraft self.now }
+        requires thread { thread < self.now.layout.threads }
+        ensures { result ≡ lives self.now.layout.version (forked_in self.now) thread }
     {
         match self.layout.version {
-            Version::One => self.lines.len() + 1,
-            Version::Two => self.lines.len() + 2,
+            Version::One => true,
+            Version::Two => born(&self.forked, thread),
         }
+    }
+
+    // Whether a thread that lives may do this.
+    fn may_do(&self, thread: u32, operation: &Operation) -> bool
+        requires draft { IsDraft self.now }
+        requires thread { thread < self.now.layout.threads }
+        requires within { UseWithin self.now.layout (use_of operation.now) }
+        requires few { FateWithin (fate_of operation.now) }
+        ensures { result ≡ may_do self.now.layout.version (held_in self.now) (forked_in self.now) thread operation.now }
+    {
+        may_use(&self.held, thread, mutex_use(operation), &self.layout)
+            && may_meet(
+                &self.forked,
+                self.layout.version,
+                thread,
+                thread_fate(operation),
+            )
+    }
+
+    /// Whether the number may stand first after the word in a line of this thread.
+    pub fn may_stand_first(&self, thread: u32, word: Word, number: u32) -> bool
+        requires draft { IsDraft self.now }
+        requires thread { thread < self.now.layout.threads }
+        requires number { number < first_count self.now.layout word }
+        ensures { result ≡ may_stand_first self.now.layout.version (held_in self.now) (forked_in self.now) thread word number }
+    {
+        let numbers = Numbers {
+            first: u64::from(number),
+            second: 0,
+            third: 0,
+        };
+        let operation = make(word, numbers);
+        self.may_do(thread, &operation)
+    }
+
+    /// Takes a line that may come next.
+    pub fn take(&mut self, line: Line) -> Result<(), AllocError>
+        requires draft { IsDraft self.old }
+        requires may { MayCome self.old.layout (held_in self.old) (forked_in self.old) line }
+        ensures taken { OnOk result (Takes self.old self.new line) }
+        ensures layout { self.new.layout ≡ self.old.layout }
+    {
+        self.lines.push(line)?;
+        let used = mutex_use(&line.operation);
+        note_use(&mut self.held, line.thread.0, used, &self.layout);
+        note_fate(&mut self.forked, thread_fate(&line.operation));
+        Ok(())
     }
 
     /// Whether no thread holds a mutex.

@@ -1,7 +1,7 @@
 //! Laws of scripts.
-ghost use Rattle.script_text.specs.Faults.{OneAnswer};
+ghost use Rattle.script_text.specs.Texts.{IsDecided};
 
-/// The answer to an input is decided by its bytes. A script text is the text of one script.
+/// The bytes of an input decide how it is read.
 pub fn one_answer()
-    ensures { OneAnswer }
+    ensures { IsDecided }
 {}

@@ -2,15 +2,15 @@
 //!
 //! A script is of version one, or of version two, in which lines fork and join threads.
 //! Promises: `read_script` gives the script of the text exactly where the whole input is one of at most 100,000 lines, and else names
-//! the first bad line, that the input is too long, a failed read or want of memory. A whole bad line wins over a later failed read.
-//! Stands on firefly_outside and larch_actions. The input is never held whole: a window of 64 KiB, and what was read.
-//! Here stand the definitions that a run is held to (specs/Runs.antt), and not the run.
+//! the first bad line as soon as the bytes show it, or says that the input is too long, a read failed or memory ran out. Stands on the
+//! exact reading of exact_text, on the layout line of trace_core, and on larch_actions. The input is never held whole: a window of 64 KiB,
+//! and what was read. Here stand the definitions that a run is held to (specs/Runs.antt), and not the run.
 #![tactic(auto)]
 
 mod draft;
+mod heads;
 pub mod laws;
 mod line;
-mod next;
 mod parse;
 mod read;
 mod script;
@@ -18,4 +18,4 @@ mod table;
 
 pub use line::{Line, Operation};
 pub use read::read_script;
-pub use script::{Script, ScriptFault};
+pub use script::Script;

@@ -1,197 +1,294 @@
-//! What stands in the bytes of one line.
-ghost use Rattle.std.specs.Prelude.{◌≡◌, ◌<◌, ◌≤◌, ◌++◌, ◌∷◌, List, ℕ, codes, decimal, length, MatchOption};
-ghost use Rattle.larch_actions.specs.Layout.{IsLawful, layout_text};
-ghost use Rattle.script_text.specs.Layouts.{IsLayoutIn};
-ghost use Rattle.script_text.specs.Faults.{Lacks};
-ghost use Rattle.script_text.specs.Operations.{IsNamed};
-ghost use Rattle.script_text.specs.Table.{IsWithin, operand_text};
-ghost use Rattle.script_text.specs.Text.{line_text, operation_text};
-ghost use Rattle.script_text.specs.Parsing.{Parses, IsField, AreParted, Are, NoneAre, first_of, IsLineOf};
+//! Reading the line that comes next after others.
+ghost use Rattle.std.specs.Prelude.{◌≡◌, ◌<◌, ◌≤◌, ◌∷◌, [], ℕ, length, IfOk};
+ghost use Rattle.exact_text.specs.Reading.{Gives};
+ghost use Rattle.larch_actions.specs.Layout.{IsLawful};
+ghost use Rattle.script_text.specs.Drafts.{IsDraft, IsAt, allowed, held_in, forked_in};
+ghost use Rattle.script_text.specs.NextLine.{count_first, number_is, some_number, operand_at, operands_at, stop_of, any_below, can_stand, row_at, row_among, line_at};
+ghost use Rattle.script_text.specs.Table.{first_of, listed, IsSmall, AreSmall};
 
+use crate::draft::Draft;
 use crate::line::{Line, Operation};
-use crate::table::{Numbers, Operand, kinds, known_word, make};
+use crate::table::{Numbers, Operand, WORDS, Word, kinds, make, text};
+use exact_text::{Stop, long_number, number, word};
 use itoa::Buffer;
-use larch_actions::{Layout, MOST_OBJECTS, ThreadId, Version};
-use memchr::memchr;
-use std::str;
+use larch_actions::ThreadId;
 
-/// The greatest number that an `add` may have.
-pub const MOST_ADDED: u64 = 1_000_000;
-
-/// The greatest number that may be waited for.
-pub const MOST_AWAITED: u64 = u64::MAX;
-
-/// The bytes before the first `stop`, and those after it.
-pub fn cut(bytes: &[u8], stop: u8) -> Option<(&[u8], &[u8])>
-    ensures { MatchOption result (Lacks stop bytes.now) (λ x. Lacks stop x.0.now × (bytes.now ≡ x.0.now ++ stop ∷ x.1.now)) }
-{
-    let Some(at) = memchr(stop, bytes) else {
-        return None;
-    };
-    Some((&bytes[..at], &bytes[at + 1..]))
+/// Which numbers may stand at a place of a line.
+#[derive(Clone, Copy)]
+pub enum Place {
+    /// Those of the threads that may have a line.
+    Thread,
+    /// Those that may stand first after the word in a line of the thread.
+    First { thread: u32, word: Word },
+    /// Any below the count.
+    Any,
 }
 
-// A number of at most `most`.
-fn number(bytes: &[u8], most: u64) -> Option<u64>
-    ensures { Parses (λ n. n ≤ most) decimal bytes.now result }
+// Whether the number may stand there.
+fn may_stand(draft: &Draft, place: Place, number: u32) -> bool
+    requires draft { IsDraft draft.now }
+    requires at { IsAt draft.now.layout place number }
+    ensures { result ≡ allowed draft.now place number }
 {
-    let Ok(text) = str::from_utf8(bytes) else {
-        return None;
-    };
-    let Ok(value) = text.parse::<u64>() else {
-        return None;
-    };
+    match place {
+        Place::Thread => draft.lives(number),
+        Place::First { thread, word } => draft.may_stand_first(thread, word, number),
+        Place::Any => true,
+    }
+}
+
+// Reads this number, and the byte that stops it.
+fn this_number(bytes: &[u8], value: u32, stop: u8) -> Result<&[u8], Stop>
+    ensures { Gives (λ rest. (value, rest.now)) result (number_is stop value bytes.now) }
+{
     let mut buffer = Buffer::new();
-    let spelt = buffer.format(value).as_bytes();
-    if value <= most && spelt == bytes {
-        Some(value)
-    } else {
-        None
-    }
+    let rest = match word(bytes, buffer.format(value).as_bytes()) {
+        Ok(rest) => rest,
+        Err(stop) => return Err(stop),
+    };
+    word(rest, &[stop])
 }
 
-// A letter, and a number below the count.
-fn name(bytes: &[u8], letter: u8, count: u32) -> Option<u32>
-    ensures { Parses (λ n. n < count) (λ n. letter ∷ decimal n) bytes.now result }
+// Reads one number after another, up to one that stands there or may still come.
+#[cold]
+fn tried_number<'b>(
+    bytes: &'b [u8],
+    draft: &Draft,
+    place: Place,
+    bound: u32,
+    stop: u8,
+) -> Result<(u32, &'b [u8]), Stop>
+    requires draft { IsDraft draft.now }
+    requires at { (n : ℕ) → n < bound → IsAt draft.now.layout place n }
+    ensures { Gives (λ x. (x.0, x.1.now)) result (some_number (allowed draft.now place) bound stop bytes.now) }
 {
-    let [first, digits @ ..] = bytes else {
-        return None;
-    };
-    if *first != letter || count == 0 {
-        return None;
+    for value in 0..bound {
+        if may_stand(draft, place, value) {
+            match this_number(bytes, value, stop) {
+                Err(Stop::Dead) => {}
+                Err(Stop::More) => return Err(Stop::More),
+                Ok(rest) => return Ok((value, rest)),
+            }
+        }
     }
-    let Some(number) = number(digits, u64::from(count - 1)) else {
-        return None;
-    };
-    Some(number as u32)
+    Err(Stop::Dead)
 }
 
-// The bytes before the first space, and those from there on.
-fn split(bytes: &[u8]) -> (&[u8], &[u8])
-    ensures { AreParted bytes.now result.0.now result.1.now }
+// Reads a number below the bound that may stand there, and the byte that stops it.
+fn some_number<'b>(
+    bytes: &'b [u8],
+    draft: &Draft,
+    place: Place,
+    bound: u32,
+    stop: u8,
+) -> Result<(u32, &'b [u8]), Stop>
+    requires draft { IsDraft draft.now }
+    requires at { (n : ℕ) → n < bound → IsAt draft.now.layout place n }
+    requires few { bound ≤ 256 }
+    requires stop { stop < 48 }
+    ensures { Gives (λ x. (x.0, x.1.now)) result (some_number (allowed draft.now place) bound stop bytes.now) }
 {
-    let Some(at) = memchr(b' ', bytes) else {
-        return (bytes, &[]);
-    };
-    (&bytes[..at], &bytes[at..])
+    // As a rule the number there is one that may stand there.
+    if let Ok((value, rest)) = number(bytes, 0, bound, stop) {
+        if may_stand(draft, place, value) {
+            return Ok((value, rest));
+        }
+    }
+    tried_number(bytes, draft, place, bound, stop)
 }
 
-// What stands after a word: a name or a number.
-fn operand(bytes: &[u8], what: Operand, layout: &Layout) -> Option<u64>
-    ensures { Parses (IsWithin layout.now what) (operand_text what) bytes.now result }
+// Reads what stands after a word or after another thing, and the byte that stops it.
+fn operand<'b>(
+    bytes: &'b [u8],
+    draft: &Draft,
+    what: Operand,
+    place: Place,
+    stop: u8,
+) -> Result<(u64, &'b [u8]), Stop>
+    requires draft { IsDraft draft.now }
+    requires at { (n : ℕ) → n < count_first draft.now.layout (what ∷ []) → IsAt draft.now.layout place n }
+    requires stop { stop < 48 }
+    ensures read { Gives (λ x. (x.0, x.1.now)) result (operand_at draft.now.layout (allowed draft.now place) what stop bytes.now) }
+    ensures small { IfOk result (λ x. IsSmall what x.0) }
 {
     match what {
         Operand::Name(kind) => {
-            let count = layout.count(kind);
-            Some(u64::from(name(bytes, kind.letter(), count)?))
+            let rest = match word(bytes, &[kind.letter()]) {
+                Ok(rest) => rest,
+                Err(stop) => return Err(stop),
+            };
+            let count = draft.layout.count(kind);
+            match some_number(rest, draft, place, count, stop) {
+                Ok((value, rest)) => Ok((u64::from(value), rest)),
+                Err(stop) => Err(stop),
+            }
         }
-        Operand::Amount => number(bytes, MOST_ADDED),
-        Operand::Count => number(bytes, MOST_AWAITED),
+        Operand::Amount => match number(bytes, 0, 1_000_001, stop) {
+            Ok((value, rest)) => Ok((u64::from(value), rest)),
+            Err(stop) => Err(stop),
+        },
+        Operand::Count => long_number(bytes, 0, stop),
     }
 }
 
-// All that stands after a word, each after a space.
-fn operands(bytes: &[u8], kinds: &[Operand], layout: &Layout) -> Option<Numbers>
-    requires lawful { IsLawful layout.now }
+// The byte in front of these.
+fn stop_before(kinds: &[Operand]) -> u8
+    ensures { result ≡ stop_of kinds.now }
+{
+    if kinds.is_empty() { b'\n' } else { b' ' }
+}
+
+// Reads what stands after a word, up to the end of the line.
+fn operands<'b>(
+    bytes: &'b [u8],
+    draft: &Draft,
+    kinds: &[Operand],
+    place: Place,
+) -> Result<(Numbers, &'b [u8]), Stop>
+    requires draft { IsDraft draft.now }
+    requires at { (n : ℕ) → n < count_first draft.now.layout kinds.now → IsAt draft.now.layout place n }
     requires few { length kinds.now ≤ 3 }
-    ensures { MatchOption result (NoneAre layout.now kinds.now bytes.now) (λ x. Are layout.now kinds.now bytes.now (first_of kinds.now x)) }
+    ensures read { Gives (λ x. (first_of kinds.now x.0, x.1.now)) result (operands_at draft.now.layout (allowed draft.now place) kinds.now
+        bytes.now) }
+    ensures small { IfOk result (λ x. AreSmall kinds.now (listed x.0)) }
 {
     let [kind, later @ ..] = kinds else {
-        if bytes.is_empty() {
-            return Some(Numbers {
+        return Ok((
+            Numbers {
                 first: 0,
                 second: 0,
                 third: 0,
-            });
+            },
+            bytes,
+        ));
+    };
+    let (first, rest) = match operand(bytes, draft, *kind, place, stop_before(later)) {
+        Ok(read) => read,
+        Err(stop) => return Err(stop),
+    };
+    match operands(rest, draft, later, Place::Any) {
+        Ok((others, rest)) => Ok((
+            Numbers {
+                first,
+                second: others.first,
+                third: others.second,
+            },
+            rest,
+        )),
+        Err(stop) => Err(stop),
+    }
+}
+
+// Whether some number below the bound may stand there.
+fn is_some(draft: &Draft, place: Place, bound: u32) -> bool
+    requires draft { IsDraft draft.now }
+    requires at { (n : ℕ) → n < bound → IsAt draft.now.layout place n }
+    ensures { result ≡ any_below (allowed draft.now place) bound }
+{
+    for value in 0..bound {
+        if may_stand(draft, place, value) {
+            return true;
         }
-        return None;
-    };
-    let [b' ', following @ ..] = bytes else {
-        return None;
-    };
-    let (piece, more) = split(following);
-    let Some(first) = operand(piece, *kind, layout) else {
-        return None;
-    };
-    let Some(others) = operands(more, later, layout) else {
-        return None;
-    };
-    Some(Numbers {
-        first,
-        second: others.first,
-        third: others.second,
-    })
+    }
+    false
 }
 
-// An operation.
-fn operation(bytes: &[u8], layout: &Layout) -> Option<Operation>
-    requires { IsLawful layout.now }
-    ensures { Parses (IsNamed layout.now) operation_text bytes.now result }
+// Whether there is something of each kind that may stand after the word.
+fn are_some(draft: &Draft, kinds: &[Operand], place: Place) -> bool
+    requires draft { IsDraft draft.now }
+    requires at { (n : ℕ) → n < count_first draft.now.layout kinds.now → IsAt draft.now.layout place n }
+    ensures { result ≡ can_stand draft.now.layout (allowed draft.now place) kinds.now }
 {
-    let (word, following) = split(bytes);
-    let Some(word) = known_word(word) else {
-        return None;
+    let [kind, later @ ..] = kinds else {
+        return true;
     };
-    let Some(numbers) = operands(following, kinds(word), layout) else {
-        return None;
+    let here = match kind {
+        Operand::Name(kind) => is_some(draft, place, draft.layout.count(*kind)),
+        Operand::Amount => true,
+        Operand::Count => true,
     };
-    Some(make(word, numbers))
+    here && are_some(draft, later, Place::Any)
 }
 
-/// The line that the bytes are, without its newline.
-pub fn line(bytes: &[u8], layout: &Layout) -> Option<Line>
-    requires { IsLawful layout.now }
-    ensures { Parses (IsLineOf layout.now) line_text bytes.now result }
+// Reads an operation with this word, for a thread that may have a line.
+#[tactic(auto, using(crate::proofs::Rows::made_first))]
+fn row<'b>(
+    bytes: &'b [u8],
+    draft: &Draft,
+    thread: u32,
+    first: Word,
+) -> Result<(Operation, &'b [u8]), Stop>
+    requires draft { IsDraft draft.now }
+    requires thread { thread < draft.now.layout.threads }
+    ensures { Gives (λ x. (x.0, x.1.now)) result (row_at draft.now.layout (held_in draft.now) (forked_in draft.now) thread first bytes.now) }
 {
-    let Some((thread, following)) = cut(bytes, b' ') else {
-        return None;
+    let found = word(bytes, text(first));
+    if let Err(Stop::Dead) = found {
+        return Err(Stop::Dead);
+    }
+    let kinds = kinds(first);
+    let place = Place::First {
+        thread,
+        word: first,
     };
-    let Some(thread) = name(thread, b't', layout.threads) else {
-        return None;
+    if !are_some(draft, kinds, place) {
+        return Err(Stop::Dead);
+    }
+    let rest = match found {
+        Ok(rest) => rest,
+        Err(stop) => return Err(stop),
     };
-    let thread = ThreadId(thread);
-    let Some(operation) = operation(following, layout) else {
-        return None;
+    let rest = match word(rest, &[stop_before(kinds)]) {
+        Ok(rest) => rest,
+        Err(stop) => return Err(stop),
     };
-    Some(Line { thread, operation })
+    match operands(rest, draft, kinds, place) {
+        Ok((numbers, rest)) => Ok((make(first, numbers), rest)),
+        Err(stop) => Err(stop),
+    }
 }
 
-// A number of at most `most` between the word and a space, and the bytes after the space.
-fn field<'b>(bytes: &'b [u8], word: &[u8], most: u32) -> Option<(u32, &'b [u8])>
-    ensures { MatchOption result ((n : ℕ) (y : List ℕ) → n ≤ most → bytes.now ≡ word.now ++ (decimal n ++ 32 ∷ y)
-        → ⊥) (λ x. IsField most bytes.now word.now x.0 x.1.now) }
+// Reads an operation with one of these words, up to the end of its line.
+fn operation<'b>(
+    bytes: &'b [u8],
+    draft: &Draft,
+    thread: u32,
+    words: &[Word],
+) -> Result<(Operation, &'b [u8]), Stop>
+    requires draft { IsDraft draft.now }
+    requires thread { thread < draft.now.layout.threads }
+    ensures { Gives (λ x. (x.0, x.1.now)) result (row_among words.now draft.now.layout (held_in draft.now) (forked_in draft.now) thread
+        bytes.now) }
 {
-    let Some(following) = bytes.strip_prefix(word) else {
-        return None;
-    };
-    let Some((digits, following)) = cut(following, b' ') else {
-        return None;
-    };
-    let Some(number) = number(digits, u64::from(most)) else {
-        return None;
-    };
-    Some((number as u32, following))
+    for word in words {
+        match row(bytes, draft, thread, *word) {
+            Err(Stop::Dead) => {}
+            Err(Stop::More) => return Err(Stop::More),
+            Ok(read) => return Ok(read),
+        }
+    }
+    Err(Stop::Dead)
 }
 
-/// The layout of the version that the bytes are, without the newline of its line.
-pub fn layout(bytes: &[u8], version: Version) -> Option<Layout>
-    ensures { Parses (IsLayoutIn version) layout_text bytes.now result }
+/// Reads the line that comes next, and returns what follows it.
+pub fn line<'b>(bytes: &'b [u8], draft: &Draft) -> Result<(Line, &'b [u8]), Stop>
+    requires { IsDraft draft.now }
+    ensures { Gives (λ x. (x.0, x.1.now)) result (line_at draft.now.layout (held_in draft.now) (forked_in draft.now) bytes.now) }
 {
-    let Some((threads, following)) = field(bytes, b"threads ", version.most_threads()) else {
-        return None;
+    let rest = match word(bytes, b"t") {
+        Ok(rest) => rest,
+        Err(stop) => return Err(stop),
     };
-    let Some((mutexes, following)) = field(following, b"mutexes ", MOST_OBJECTS) else {
-        return None;
+    let threads = draft.layout.threads;
+    let (thread, rest) = match some_number(rest, draft, Place::Thread, threads, b' ') {
+        Ok(read) => read,
+        Err(stop) => return Err(stop),
     };
-    let Some((conditions, following)) = field(following, b"conditions ", MOST_OBJECTS) else {
-        return None;
-    };
-    let Some(digits) = following.strip_prefix(b"semaphores ") else {
-        return None;
-    };
-    let Some(semaphores) = number(digits, u64::from(MOST_OBJECTS)) else {
-        return None;
-    };
-    let layout = Layout::of_version(version, threads, mutexes, conditions, semaphores as u32);
-    if layout.lawful() { Some(layout) } else { None }
+    match operation(rest, draft, thread, &WORDS) {
+        Ok((operation, rest)) => {
+            let thread = ThreadId(thread);
+            Ok((Line { thread, operation }, rest))
+        }
+        Err(stop) => Err(stop),
+    }
 }

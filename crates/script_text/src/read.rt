@@ -1,218 +1,130 @@
 //! Reading scripts.
-ghost use Rattle.std.specs.Prelude.{◌≡◌, ◌+◌, ◌<◌, ◌≤◌, ◌++◌, ◌∷◌, [], List, ℕ, Ok, true, false, length, take, drop, Some, IfSome, IfOk, IfErr, OnOk, OnErr, MatchOption, MatchResult};
-ghost use Rattle.std.specs.Io.KnownBytes.{Consumes, IsAtEnd, prepend_known};
-ghost use Rattle.larch_actions.specs.declared.event.Version.TheVariants.{Two};
-ghost use Rattle.larch_actions.specs.Layout.{IsLawful, layout_text};
-ghost use Rattle.script_text.specs.Layouts.{IsLayoutIn, head_lines};
-ghost use Rattle.script_text.specs.declared.line.Line.{Line};
-ghost use Rattle.script_text.specs.Operations.{none_held, held_after, AllFree};
-ghost use Rattle.script_text.specs.Text.{line_text, first_line, IsScript, ReadsAs};
-ghost use Rattle.script_text.specs.Faults.{HasReason, IsReported};
-ghost use Rattle.script_text.specs.Drafts.{IsDraft, Takes, NoFirstIs, IsStart, HeadReason, FirstFault, SecondFault, TakeFault, EndFault, LineFault, LaterFault, IsDone, IsFinished};
+ghost use Rattle.std.specs.Prelude.{◌≡◌, ◌+◌, ◌-◌, ◌*◌, ◌≤◌, [], length, IfSome, IfOk, IfErr, OnOk};
+ghost use Rattle.std.specs.Io.KnownBytes.{Consumes, IsAtEnd};
+ghost use Rattle.exact_text.specs.Exact.{HasReason, OrMemory, lines_room};
+ghost use Rattle.exact_text.specs.Intake.{rest_of, room_of, IsReported};
+ghost use Rattle.larch_actions.specs.Layout.{IsLawful};
+ghost use Rattle.script_text.specs.Layouts.{head_lines};
+ghost use Rattle.script_text.specs.Operations.{none_held, none_forked};
+ghost use Rattle.script_text.specs.Text.{IsScript, IsScriptText, ReadsAs};
+ghost use Rattle.script_text.specs.Texts.{head_text, most_lines, IsRest};
+ghost use Rattle.script_text.specs.Drafts.{IsDraft, held_in, forked_in};
+ghost use Rattle.script_text.specs.Finished.{IsFinished, OneRead};
 
 use crate::draft::Draft;
-use crate::next::{Found, next};
+use crate::heads::{FirstLine, SecondLine, Start};
+use crate::line::Line;
 use crate::parse;
-use crate::script::{Script, ScriptFault};
-use firefly_outside::{Source, Window};
-use larch_actions::{Layout, Version};
+use crate::script::Script;
+use exact_text::{Intake, NextLine, Stop, TextFault, take_line};
+use firefly_outside::Source;
+use larch_actions::Layout;
 use std::alloc::Global;
 
 /// How many lines a script has at most, with those before the lines of the threads.
-pub const MOST_LINES: usize = 100_000;
+pub const MOST_LINES: u64 = 100_000;
 
-// The first line of a script of version two.
-const SECOND_VERSION: &[u8] = b"firefly-script 2";
+impl NextLine for Draft {
+    ghost use Rattle.script_text.specs.Operations.{MayCome};
+    ghost use Rattle.script_text.specs.Drafts.{IsDraft, held_in, forked_in};
+    ghost use Rattle.script_text.specs.Heads.{IsReadable};
+    ghost use Rattle.script_text.specs.NextLine.{line_at, whole_line};
 
-// What a first line says.
-#[derive(Clone, Copy)]
-enum Start {
-    // the layout of version one
-    Layout(Layout),
-    // version two, whose layout comes next
-    Second,
-}
+    type Line = Line;
 
-// What the first line says, where it is one.
-fn start_of(bytes: &[u8]) -> Option<Start>
-    ensures { MatchOption result (NoFirstIs bytes.now) (IsStart bytes.now) }
-{
-    if bytes == SECOND_VERSION {
-        return Some(Start::Second);
-    }
-    let layout = parse::layout(bytes, Version::One)?;
-    Some(Start::Layout(layout))
-}
+    ghost is_possible = { λ d. IsDraft d × IsReadable (MayCome d.layout (held_in d) (forked_in d)) whole_line
+        (line_at d.layout (held_in d) (forked_in d)) };
 
-// Takes the first line.
-fn first<I: Source>(window: &mut Window, input: &mut I) -> Result<Start, ScriptFault>
-    ensures start { IfOk result (λ s. (line : List ℕ) × IsStart line s × Consumes (prepend_known window.old (I.left input.old))
-        (prepend_known window.new (I.left input.new)) (line ++ 10 ∷ [])) }
-    ensures fault { IfErr result (FirstFault (prepend_known window.old (I.left input.old)) (I.left input.new)
-        (I.faults input.old) (I.faults input.new)) }
-    ensures reported { IsReported (I.faults input.old) (I.faults input.new) result }
-{
-    match next(window, input) {
-        Ok(Found::Whole { length }) => {
-            let Some(start) = start_of(&window.bytes()[..length]) else {
-                return Err(ScriptFault::BadLine(1));
-            };
-            window.skip(length + 1);
-            Ok(start)
-        }
-        Ok(Found::Long) => Err(ScriptFault::BadLine(1)),
-        Ok(Found::Open) => Err(ScriptFault::BadLine(1)),
-        Ok(Found::End) => Err(ScriptFault::BadLine(1)),
-        Err(_) => Err(ScriptFault::Read),
-    }
-}
+    ghost is_lawful = { λ d. MayCome d.layout (held_in d) (forked_in d) };
 
-// Takes the layout line of version two, the second line.
-fn second<I: Source>(window: &mut Window, input: &mut I) -> Result<Layout, ScriptFault>
-    ensures layout { IfOk result (λ l. IsLayoutIn Two l × Consumes (prepend_known window.old (I.left input.old))
-        (prepend_known window.new (I.left input.new)) (layout_text l ++ 10 ∷ [])) }
-    ensures fault { IfErr result (SecondFault (prepend_known window.old (I.left input.old)) (I.left input.new)
-        (I.faults input.old) (I.faults input.new)) }
-    ensures reported { IsReported (I.faults input.old) (I.faults input.new) result }
-{
-    match next(window, input) {
-        Ok(Found::Whole { length }) => {
-            let Some(layout) = parse::layout(&window.bytes()[..length], Version::Two) else {
-                return Err(ScriptFault::BadLine(2));
-            };
-            window.skip(length + 1);
-            Ok(layout)
-        }
-        Ok(Found::Long) => Err(ScriptFault::BadLine(2)),
-        Ok(Found::Open) => Err(ScriptFault::BadLine(2)),
-        Ok(Found::End) => Err(ScriptFault::BadLine(2)),
-        Err(_) => Err(ScriptFault::Read),
+    ghost text = { λ d. whole_line };
+
+    ghost reads = { λ d. line_at d.layout (held_in d) (forked_in d) };
+
+    ghost is_exact = { λ d ok. ok.1.exact };
+
+    ghost is_line = { λ d ok. ok.1.lines };
+
+    ghost is_some = { λ d ok. ok.1.some };
+
+    fn read<'b>(&self, bytes: &'b [u8]) -> Result<(Line, &'b [u8]), Stop> {
+        parse::line(bytes, self)
     }
 }
 
 // Takes all that stands before the lines of the threads.
-fn head<I: Source>(window: &mut Window, input: &mut I) -> Result<Layout, ScriptFault>
-    ensures layout { IfOk result (λ l. IsLawful l × Consumes (prepend_known window.old (I.left input.old))
-        (prepend_known window.new (I.left input.new)) (first_line l.version ++ (layout_text l ++ 10 ∷ []))) }
-    ensures fault { IfErr result (HeadReason (prepend_known window.old (I.left input.old)) (I.left input.new)
-        (I.faults input.old) (I.faults input.new)) }
+fn head<I: Source>(intake: &mut Intake, input: &mut I) -> Result<Layout, TextFault>
+    requires fresh { intake.old.lines ≡ 0 }
+    requires room { 131072 ≤ room_of intake.old }
+    ensures layout { IfOk result (λ l. IsLawful l × Consumes (rest_of intake.old (I.left input.old))
+        (rest_of intake.new (I.left input.new)) (head_text l)) }
+    ensures lines { IfOk result (λ l. intake.new.lines ≡ head_lines l.version) }
+    ensures room { OnOk result (room_of intake.old ≤ room_of intake.new + 131072) }
+    ensures fault { IfErr result (HasReason IsScriptText (lines_room most_lines) 0 (rest_of intake.old (I.left input.old))
+        (I.left input.new) (I.faults input.old) (I.faults input.new)) }
     ensures reported { IsReported (I.faults input.old) (I.faults input.new) result }
 {
-    match first(window, input) {
+    match take_line(intake, input, &FirstLine) {
         Ok(Start::Layout(layout)) => Ok(layout),
-        Ok(Start::Second) => second(window, input),
+        Ok(Start::Second) => match take_line(intake, input, &SecondLine) {
+            Ok(layout) => Ok(layout),
+            Err(fault) => Err(fault),
+        },
         Err(fault) => Err(fault),
     }
 }
 
-// The end of the input, after these lines.
-fn end(draft: &Draft) -> Result<(), ScriptFault>
-    requires draft { IsDraft draft.now }
-    requires few { head_lines draft.now.layout.version + length draft.now.lines.items ≤ 100000 }
-    ensures { MatchResult result (λ _. AllFree (held_after none_held draft.now.lines.items))
-        (EndFault draft.now.layout.version draft.now.lines.items) }
-{
-    if draft.is_free() {
-        Ok(())
-    } else {
-        Err(ScriptFault::BadLine(draft.lines_read() as u64 + 1))
-    }
-}
-
-// Takes the line of so many bytes that stands first in the window.
-fn take(window: &mut Window, size: usize, draft: &mut Draft) -> Result<(), ScriptFault>
+// Takes the next line, and says whether there was one, or the input has ended where a script may end.
+fn one<I: Source>(intake: &mut Intake, input: &mut I, draft: &mut Draft) -> Result<bool, TextFault>
     requires draft { IsDraft draft.old }
-    requires few { head_lines draft.old.layout.version + length draft.old.lines.items < 100000 }
-    requires whole { size < length window.old }
-    ensures line { OnOk result ((x : Line) × (take size window.old ≡ line_text x) × Takes draft.old draft.new x
-        × (window.new ≡ drop (size + 1) window.old)) }
-    ensures fault { IfErr result (TakeFault draft.old.layout draft.old.lines.items (take size window.old)) }
-    ensures same { OnErr result (window.new ≡ window.old) }
+    requires counted { intake.old.lines ≡ head_lines draft.old.layout.version + length draft.old.lines.items }
+    requires few { intake.old.lines ≤ most_lines }
+    requires room { 65536 ≤ room_of intake.old }
+    ensures read { IfOk result (OneRead draft.old draft.new intake.old intake.new (I.left input.old) (I.left input.new)) }
     ensures layout { draft.new.layout ≡ draft.old.layout }
+    ensures fault { IfErr result (OrMemory (HasReason (IsRest draft.old.layout (held_in draft.old) (forked_in draft.old))
+        (lines_room (most_lines - intake.old.lines)) intake.old.lines (rest_of intake.old (I.left input.old)) (I.left input.new)
+        (I.faults input.old) (I.faults input.new))) }
+    ensures reported { IsReported (I.faults input.old) (I.faults input.new) result }
 {
-    let line = draft.lines_read() as u64 + 1;
-    match draft.take(&window.bytes()[..size]) {
-        Ok(true) => {
-            window.skip(size + 1);
-            Ok(())
+    match intake.goes_on(input) {
+        Ok(true) => {}
+        Ok(false) => {
+            if draft.is_free() {
+                return Ok(false);
+            }
+            return Err(TextFault::BadLine(intake.lines + 1));
         }
-        Ok(false) => Err(ScriptFault::BadLine(line)),
-        Err(_) => Err(ScriptFault::Memory),
+        Err(fault) => return Err(fault),
+    }
+    if intake.lines >= MOST_LINES {
+        return Err(TextFault::TooLong);
+    }
+    let line = match take_line(intake, input, &*draft) {
+        Ok(line) => line,
+        Err(fault) => return Err(fault),
+    };
+    match draft.take(line) {
+        Ok(()) => Ok(true),
+        Err(_) => Err(TextFault::Memory),
     }
 }
 
-// Takes the next line, or the end of the input, and says whether there was a line.
-fn one<I: Source>(
-    window: &mut Window,
-    input: &mut I,
-    draft: &mut Draft,
-) -> Result<bool, ScriptFault>
-    requires draft { IsDraft draft.old }
-    requires few { head_lines draft.old.layout.version + length draft.old.lines.items < 100000 }
-    ensures line { result ≡ Ok true → (x : Line) × Takes draft.old draft.new x
-        × Consumes (prepend_known window.old (I.left input.old)) (prepend_known window.new (I.left input.new))
-        (line_text x ++ 10 ∷ []) }
-    ensures end { result ≡ Ok false → (draft.new ≡ draft.old) × IsDone draft.old.lines.items (prepend_known window.old
-        (I.left input.old)) (I.left input.new) }
-    ensures layout { draft.new.layout ≡ draft.old.layout }
-    ensures fault { IfErr result (LineFault draft.old.layout draft.old.lines.items (prepend_known window.old (I.left input.old))
-        (I.left input.new) (I.faults input.old) (I.faults input.new)) }
-    ensures reported { IsReported (I.faults input.old) (I.faults input.new) result }
-{
-    let line = draft.lines_read() as u64 + 1;
-    match next(window, input) {
-        Ok(Found::Whole { length }) => match take(window, length, draft) {
-            Ok(()) => Ok(true),
-            Err(fault) => Err(fault),
-        },
-        Ok(Found::Long) => Err(ScriptFault::BadLine(line)),
-        Ok(Found::Open) => Err(ScriptFault::BadLine(line)),
-        Ok(Found::End) => match end(draft) {
-            Ok(()) => Ok(false),
-            Err(fault) => Err(fault),
-        },
-        Err(_) => Err(ScriptFault::Read),
-    }
-}
-
-// Takes the end of the input after the last line that there may be.
-fn full<I: Source>(window: &mut Window, input: &mut I, draft: &Draft) -> Result<(), ScriptFault>
-    requires draft { IsDraft draft.now }
-    requires full { head_lines draft.now.layout.version + length draft.now.lines.items ≡ 100000 }
-    ensures end { OnOk result (IsDone draft.now.lines.items (prepend_known window.old (I.left input.old)) (I.left input.new)) }
-    ensures fault { IfErr result (LineFault draft.now.layout draft.now.lines.items (prepend_known window.old (I.left input.old))
-        (I.left input.new) (I.faults input.old) (I.faults input.new)) }
-    ensures reported { IsReported (I.faults input.old) (I.faults input.new) result }
-{
-    if window.len() > 0 {
-        return Err(ScriptFault::TooLong);
-    }
-    match window.refill(input, 1) {
-        Ok(0) => end(draft),
-        Ok(_) => Err(ScriptFault::TooLong),
-        Err(_) => Err(ScriptFault::Read),
-    }
-}
-
-// Takes all lines after the layout line, and the end of the input.
-fn lines<I: Source>(
-    window: &mut Window,
-    input: &mut I,
-    draft: &mut Draft,
-) -> Result<(), ScriptFault>
+// Takes all lines after those before them, and the end of the input.
+fn lines<I: Source>(intake: &mut Intake, input: &mut I, draft: &mut Draft) -> Result<(), TextFault>
     requires draft { IsDraft draft.old }
     requires none { draft.old.lines.items ≡ [] }
+    requires counted { intake.old.lines ≡ head_lines draft.old.layout.version }
+    requires room { 65536 * 100001 ≤ room_of intake.old }
     ensures layout { draft.new.layout ≡ draft.old.layout }
-    ensures done { OnOk result (IsFinished draft.new (prepend_known window.old (I.left input.old)) (I.left input.new)) }
-    ensures fault { IfErr result (LaterFault draft.old.layout (prepend_known window.old (I.left input.old)) (I.left input.new)
-        (I.faults input.old) (I.faults input.new)) }
+    ensures done { OnOk result (IsFinished draft.new (rest_of intake.old (I.left input.old)) (I.left input.new)) }
+    ensures fault { IfErr result (OrMemory (HasReason (IsRest draft.old.layout none_held none_forked)
+        (lines_room (most_lines - intake.old.lines)) intake.old.lines (rest_of intake.old (I.left input.old)) (I.left input.new)
+        (I.faults input.old) (I.faults input.new))) }
     ensures reported { IsReported (I.faults input.old) (I.faults input.new) result }
 {
     loop {
-        if draft.lines_read() == MOST_LINES {
-            return full(window, input, draft);
-        }
-        match one(window, input, draft) {
+        match one(intake, input, draft) {
             Ok(true) => {}
             Ok(false) => return Ok(()),
             Err(fault) => return Err(fault),
@@ -220,22 +132,27 @@ fn lines<I: Source>(
     }
 }
 
-/// Reads the script that the input is. Nothing is asked of the source once the bytes that it gave decide.
-pub fn read_script<I: Source>(alloc: Global, input: &mut I) -> Result<Script, ScriptFault>
+/// Reads the script that the input is.
+///
+/// `BadLine` names the first line at which the input is no prefix of a script text, as soon as the bytes show it; where the input ends too
+/// early, that line. `TooLong` says that 100,000 lines stand first and that more bytes come, and `Read` that the source failed before the
+/// bytes had shown one of these.
+pub fn read_script<I: Source>(alloc: Global, input: &mut I) -> Result<Script, TextFault>
     ensures script { IfOk result (λ s. IfSome (I.left input.old) (λ bytes. ReadsAs bytes s.layout s.lines)) }
     ensures rules { IfOk result (λ s. IsScript s.layout s.lines) }
-    ensures few { IfOk result (λ s. head_lines s.layout.version + length s.lines ≤ 100000) }
+    ensures few { IfOk result (λ s. head_lines s.layout.version + length s.lines ≤ most_lines) }
     ensures end { OnOk result (IsAtEnd (I.left input.new)) }
-    ensures fault { IfErr result (HasReason (I.left input.old) (I.left input.new) (I.faults input.old) (I.faults input.new)) }
+    ensures fault { IfErr result (OrMemory (HasReason IsScriptText (lines_room most_lines) 0 (I.left input.old) (I.left input.new)
+        (I.faults input.old) (I.faults input.new))) }
     ensures reported { IsReported (I.faults input.old) (I.faults input.new) result }
 {
-    let mut window = Window::new();
-    let layout = match head(&mut window, input) {
+    let mut intake = Intake::new(u64::MAX - 1);
+    let layout = match head(&mut intake, input) {
         Ok(layout) => layout,
         Err(fault) => return Err(fault),
     };
     let mut draft = Draft::new(alloc, layout);
-    match lines(&mut window, input, &mut draft) {
+    match lines(&mut intake, input, &mut draft) {
         Ok(()) => {}
         Err(fault) => return Err(fault),
     }

@@ -4,20 +4,6 @@ ghost use Rattle.std.specs.Prelude.{◌≡◌, ◌<◌, length};
 use crate::line::Line;
 use larch_actions::Layout;
 use std::marker::Model;
-use thiserror::Error;
-
-/// Why a script was not read.
-#[derive(Clone, Copy, Debug, PartialEq, Eq, Error)]
-pub enum ScriptFault {
-    #[error("out of memory")]
-    Memory,
-    #[error("bad line {0}")]
-    BadLine(u64),
-    #[error("input too long")]
-    TooLong,
-    #[error("input could not be read")]
-    Read,
-}
 
 /// A layout, and lines of which each may come after those before it, at whose end no thread holds a mutex.
 #[derive(Drop)]

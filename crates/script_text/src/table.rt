@@ -1,8 +1,7 @@
 //! The table of operations: for each its word, what stands after the word, and what it does with a mutex or a thread.
 //!
 //! A further operation is a row in each function here and in specs/Table.antt. Texts and their reading follow from the rows.
-ghost use Rattle.std.specs.Prelude.{◌≡◌, ◌<◌, ◌^◌, ◌↔◌, IsTrue};
-ghost use Rattle.script_text.specs.Parsing.{Parses};
+ghost use Rattle.std.specs.Prelude.{◌≡◌};
 ghost use Rattle.script_text.specs.Table.{word_text, kinds_of, made, use_of, fate_of, listed, AreSmall};
 
 use crate::line::Operation;
@@ -71,52 +70,47 @@ pub enum Fate {
     Nothing,
 }
 
-// Whether the bytes are these.
-#[inline]
-fn are(bytes: &[u8], text: &[u8]) -> bool
-    ensures { IsTrue result ↔ (bytes.now ≡ text.now) }
-{
-    bytes == text
-}
+/// All words.
+pub const WORDS: [Word; 16] = [
+    Word::Acquire,
+    Word::Release,
+    Word::Wait,
+    Word::AlertWait,
+    Word::Signal,
+    Word::Broadcast,
+    Word::P,
+    Word::V,
+    Word::Alert,
+    Word::TestAlert,
+    Word::AlertP,
+    Word::Add,
+    Word::Until,
+    Word::AlertUntil,
+    Word::Fork,
+    Word::Join,
+];
 
-/// The word that the bytes are.
-pub fn known_word(bytes: &[u8]) -> Option<Word>
-    ensures { Parses (λ _. Unit {0}) word_text bytes.now result }
+/// The word as it is spelt.
+pub fn text(word: Word) -> &'static [u8]
+    ensures { result.now ≡ word_text word }
 {
-    if are(bytes, b"acquire") {
-        Some(Word::Acquire)
-    } else if are(bytes, b"release") {
-        Some(Word::Release)
-    } else if are(bytes, b"wait") {
-        Some(Word::Wait)
-    } else if are(bytes, b"alert-wait") {
-        Some(Word::AlertWait)
-    } else if are(bytes, b"signal") {
-        Some(Word::Signal)
-    } else if are(bytes, b"broadcast") {
-        Some(Word::Broadcast)
-    } else if are(bytes, b"p") {
-        Some(Word::P)
-    } else if are(bytes, b"v") {
-        Some(Word::V)
-    } else if are(bytes, b"alert") {
-        Some(Word::Alert)
-    } else if are(bytes, b"test-alert") {
-        Some(Word::TestAlert)
-    } else if are(bytes, b"alert-p") {
-        Some(Word::AlertP)
-    } else if are(bytes, b"add") {
-        Some(Word::Add)
-    } else if are(bytes, b"until") {
-        Some(Word::Until)
-    } else if are(bytes, b"alert-until") {
-        Some(Word::AlertUntil)
-    } else if are(bytes, b"fork") {
-        Some(Word::Fork)
-    } else if are(bytes, b"join") {
-        Some(Word::Join)
-    } else {
-        None
+    match word {
+        Word::Acquire => b"acquire",
+        Word::Release => b"release",
+        Word::Wait => b"wait",
+        Word::AlertWait => b"alert-wait",
+        Word::Signal => b"signal",
+        Word::Broadcast => b"broadcast",
+        Word::P => b"p",
+        Word::V => b"v",
+        Word::Alert => b"alert",
+        Word::TestAlert => b"test-alert",
+        Word::AlertP => b"alert-p",
+        Word::Add => b"add",
+        Word::Until => b"until",
+        Word::AlertUntil => b"alert-until",
+        Word::Fork => b"fork",
+        Word::Join => b"join",
     }
 }
 

@@ -149,8 +149,8 @@ fn a_failed_read_of_a_script_is_reported(rt: HostRuntime) -> Result<(), AllocErr
 }
 
 #[test]
-fn a_whole_bad_line_of_a_script_wins_over_a_failed_read(rt: HostRuntime) -> Result<(), Fail> {
-    let found = failing(&rt, rt.alloc(), "run", bad_second_line(), 60)?;
+fn a_bad_byte_of_a_script_goes_before_a_failed_read(rt: HostRuntime) -> Result<(), Fail> {
+    let found = failing(&rt, rt.alloc(), "run", bad_second_line(), 50)?;
     same(&rt, &found.status, &Status::BadText);
     Ok(())
 }

@@ -1,8 +1,9 @@
 //! Scripts as they are read: each operation, and a read that fails.
 use crate::same::same;
+use exact_text::TextFault;
 use firefly_outside::MemSource;
 use larch_actions::{CondId, MutexId, SemId, ThreadId};
-use script_text::{Line, Operation, Script, ScriptFault, read_script};
+use script_text::{Line, Operation, Script, read_script};
 use std::alloc::{AllocError, Global};
 use std::process::Abort;
 use std::test::Fail;
@@ -12,7 +13,7 @@ fn read(
     alloc: Global,
     text: &str,
     given: Option<usize>,
-) -> Result<Result<Script, ScriptFault>, AllocError> {
+) -> Result<Result<Script, TextFault>, AllocError> {
     let mut source = MemSource::new(Vec::from_slice(alloc, text.as_bytes())?);
     if let Some(given) = given {
         source.fail_after(given);
@@ -89,7 +90,7 @@ fn is_refused(
     alloc: Global,
     text: &str,
     given: usize,
-    fault: ScriptFault,
+    fault: TextFault,
 ) -> Result<(), AllocError> {
     let found = read(alloc, text, Some(given))?.err();
     same(rt, &found, &Some(fault));
@@ -97,10 +98,10 @@ fn is_refused(
 }
 
 #[test]
-fn a_whole_bad_line_wins_over_a_later_failed_read(rt: HostRuntime) -> Result<(), Fail> {
+fn a_bad_byte_goes_before_a_later_failed_read(rt: HostRuntime) -> Result<(), Fail> {
     let text = "threads 1 mutexes 1 conditions 0 semaphores 0\nt0 release m0\nt0 acquire m0\n";
-    is_refused(&rt, rt.alloc(), text, 60, ScriptFault::BadLine(2))?;
-    is_refused(&rt, rt.alloc(), text, 59, ScriptFault::Read)?;
+    is_refused(&rt, rt.alloc(), text, 50, TextFault::BadLine(2))?;
+    is_refused(&rt, rt.alloc(), text, 49, TextFault::Read)?;
     Ok(())
 }
 

@@ -8,7 +8,6 @@ use index_find::QueryFault;
 use indexer::IndexAnswer;
 use job_pool::PoolEnd;
 use larch_actions::Broken;
-use script_text::ScriptFault;
 use std::alloc::AllocError;
 use std::fmt::Display;
 use std::test::Fail;
@@ -68,18 +67,6 @@ fn faults_of_sources_sinks_and_trees(rt: HostRuntime) -> Result<(), Fail> {
     assert!(rt; print_so(rt, &[(Failed, "a read or a write failed")])?);
     assert!(rt; print_so(rt, &[(SinkFault, "output could not be written")])?);
     assert!(rt; print_so(rt, &trees)?);
-    Ok(())
-}
-
-#[test]
-fn faults_of_scripts(rt: HostRuntime) -> Result<(), Fail> {
-    let scripts = [
-        (ScriptFault::Memory, "out of memory"),
-        (ScriptFault::BadLine(100001), "bad line 100001"),
-        (ScriptFault::TooLong, "input too long"),
-        (ScriptFault::Read, "input could not be read"),
-    ];
-    assert!(rt; print_so(rt, &scripts)?);
     Ok(())
 }
 

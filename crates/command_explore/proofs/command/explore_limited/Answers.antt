@@ -27,17 +27,17 @@ pub returns-in-Err-clause-answers : goal.returns-in-Err-clause-answers
 returns-in-Err-clause-answers g c =
     let input = change_of g.I.Source.left g.I.Source.faults c.args.input.now c.read_script.new.input in
     let out = change_of g.O.Sink.held g.O.Sink.faults c.args.out.now c.args.out.now in
-    let notes = change_of g.N.Sink.held g.N.Sink.faults c.args.notes.now c.ends_refused.new.notes in
-    refused_answers c.args.limit input out notes c.in-Err.fault c.ends_refused.result c.in-Err.ensures.fault (refl, refl) c.ends_refused.ensures
+    let notes = change_of g.N.Sink.held g.N.Sink.faults c.args.notes.now c.ends_unread.new.notes in
+    refused_answers c.args.limit input out notes c.in-Err.fault c.ends_unread.result c.in-Err.ensures.fault (refl, refl) c.ends_unread.ensures
 
 pub returns-in-Err-clause-exact : goal.returns-in-Err-clause-exact
 returns-in-Err-clause-exact g c =
     let input = change_of g.I.Source.left g.I.Source.faults c.args.input.now c.read_script.new.input in
-    let notes = change_of g.N.Sink.held g.N.Sink.faults c.args.notes.now c.ends_refused.new.notes in
-    refused_decides As Own input notes c.in-Err.fault c.ends_refused.result c.in-Err.ensures.fault c.ends_refused.ensures
+    let notes = change_of g.N.Sink.held g.N.Sink.faults c.args.notes.now c.ends_unread.new.notes in
+    refused_decides As Own input notes c.in-Err.fault c.ends_unread.result c.in-Err.ensures.fault c.ends_unread.ensures
 
 pub returns-in-Err-clause-reported : goal.returns-in-Err-clause-reported
 returns-in-Err-clause-reported g c =
     let input = change_of g.I.Source.left g.I.Source.faults c.args.input.now c.read_script.new.input in
-    let notes = change_of g.N.Sink.held g.N.Sink.faults c.args.notes.now c.ends_refused.new.notes in
-    refused_tells input notes c.in-Err.fault c.ends_refused.result c.ends_refused.ensures c.in-Err.ensures.reported.otherwise
+    let notes = change_of g.N.Sink.held g.N.Sink.faults c.args.notes.now c.ends_unread.new.notes in
+    refused_tells input notes c.in-Err.fault c.ends_unread.result c.ends_unread.ensures c.in-Err.ensures.reported.otherwise

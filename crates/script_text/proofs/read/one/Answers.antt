@@ -1,65 +1,63 @@
-use Rattle.std.proofs.Common.{◌+◌, arith}
-use Rattle.script_text.specs.Text.{line_text}
-use Rattle.script_text.proofs.Firsts.{line_consumed}
-use Rattle.script_text.proofs.LineFaults.{whole_bad, long_bad, open_bad}
-use Rattle.script_text.proofs.Results.{no_value, not_false, not_true}
+use Rattle.std.proofs.Common.{◌+◌, ◌-◌, sym, ◌∙◌, arith}
+use Rattle.std.proofs.lemmas.Bool.{false≢true}
+use Rattle.exact_text.specs.Intake.{rest_of}
+use Rattle.exact_text.proofs.LinesOf.{keeps_then}
+use Rattle.script_text.specs.NextLine.{whole_line}
+use Rattle.script_text.proofs.Reading.{readable, asked_why, stuck_why, full_why, held_why}
 use Rattle.script_text.proofs.read.one.Goals as goal
 
-pub returns-in-Ok-clause-line : goal.returns-in-Ok-clause-line
-returns-in-Ok-clause-line g c e =
-    let f = rw c.in-Ok-Whole.field-0-is at c.in-Ok-Whole.ensures.found in
-    let t = c.in-Ok.ensures.line in
-    (t.0, t.2, line_consumed _ (g.I.Source.left c.next.new.input) c.next.new.window c.take.new.window (line_text t.0) c.in-Ok-Whole.length c.in-Ok-Whole.ensures.kept f t.1 t.3)
+pub returns-in-Ok-false-clause-fault : goal.returns-in-Ok-false-clause-fault
+returns-in-Ok-false-clause-fault g c =
+    let a = rw c.in-Ok-false.field-0-test at c.in-Ok-false.ensures.asked in
+    let old = c.args.intake.now in
+    let left' = g.I.Source.left c.goes_on.new.input in
+    let now = g.I.Source.faults c.goes_on.new.input in
+    held_why c.args.draft.now c.requires.draft old c.goes_on.new.self (g.I.Source.left c.args.input.now) left' left' (100000 - old.lines) (g.I.Source.faults c.args.input.now) now now a
+    (λ free. false≢true (sym c.if-is_free.false ∙ c.is_free.ensures.1 free)) (c.goes_on.new.self.lines + 1) (omega (arith, a.0.1))
 
-pub returns-in-Err-take-clause-fault : goal.returns-in-Err-take-clause-fault
-returns-in-Err-take-clause-fault g c =
-    let f = rw c.in-Ok-Whole.field-0-is at c.in-Ok-Whole.ensures.found in
-    whole_bad c.args.draft.now.layout c.args.draft.now.lines.items _ (g.I.Source.left c.next.new.input) c.next.new.window c.in-Ok-Whole.length _ _ c.in-Err-take.fault c.in-Ok-Whole.ensures.kept f c.requires.few c.in-Err-take.ensures.fault
+pub returns-in-Err-clause-fault : goal.returns-in-Err-clause-fault
+returns-in-Err-clause-fault g c =
+    let old = c.args.intake.now in
+    let left' = g.I.Source.left c.goes_on.new.input in
+    let now = g.I.Source.faults c.goes_on.new.input in
+    asked_why c.args.draft.now c.requires.draft old c.goes_on.new.self (g.I.Source.left c.args.input.now) left' left' (100000 - old.lines) (g.I.Source.faults c.args.input.now) now now c.in-Err.fault c.requires.room
+    c.in-Err.ensures.asked
 
-pub returns-in-Ok-Long-clause-fault : goal.returns-in-Ok-Long-clause-fault
-returns-in-Ok-Long-clause-fault g c =
-    let f = rw c.in-Ok-Long.field-0-is at c.in-Ok-Long.ensures.found in
-    let d = c.args.draft.now in
-    long_bad d.layout d.lines.items _ (g.I.Source.left c.next.new.input) c.next.new.window (g.I.Source.faults c.args.input.now) (g.I.Source.faults c.next.new.input) (c.lines_read.result + 1) c.requires.draft.lawful c.in-Ok-Long.ensures.kept (omega (arith, c.lines_read.ensures)) c.requires.few f.0 f.1
+pub returns-then-intake-ge-MOST_LINES-clause-fault :
+    goal.returns-then-intake-ge-MOST_LINES-clause-fault
+returns-then-intake-ge-MOST_LINES-clause-fault g c =
+    let a = rw c.in-Ok-true.field-0-test at c.in-Ok-true.ensures.asked in
+    let old = c.args.intake.now in
+    let left' = g.I.Source.left c.goes_on.new.input in
+    let now = g.I.Source.faults c.goes_on.new.input in
+    full_why c.args.draft.now c.requires.draft old c.goes_on.new.self (g.I.Source.left c.args.input.now) left' left' (100000 - old.lines) (g.I.Source.faults c.args.input.now) now now a
+    (omega (arith, c.if-intake-ge-MOST_LINES.true, a.0.1))
 
-pub returns-in-Ok-Open-clause-fault : goal.returns-in-Ok-Open-clause-fault
-returns-in-Ok-Open-clause-fault g c =
-    let f = rw c.in-Ok-Open.field-0-is at c.in-Ok-Open.ensures.found in
-    let d = c.args.draft.now in
-    open_bad d.layout d.lines.items _ (g.I.Source.left c.next.new.input) c.next.new.window (g.I.Source.faults c.args.input.now) (g.I.Source.faults c.next.new.input) (c.lines_read.result + 1) c.in-Ok-Open.ensures.kept (omega (arith, c.lines_read.ensures)) c.requires.few f.0 f.1 f.2
+pub take_line-requires : goal.take_line-requires
+take_line-requires g c = (c.requires.draft, readable c.args.draft.now c.requires.draft)
 
-pub returns-in-Ok-clause-end : goal.returns-in-Ok-clause-end
-returns-in-Ok-clause-end g c e = not_false e
+pub returns-in-Err-take_line-clause-fault : goal.returns-in-Err-take_line-clause-fault
+returns-in-Err-take_line-clause-fault g c =
+    let a = rw c.in-Ok-true.field-0-test at c.in-Ok-true.ensures.asked in
+    let old = c.args.intake.now in
+    stuck_why c.args.draft.now c.requires.draft old c.goes_on.new.self (g.I.Source.left c.args.input.now) (g.I.Source.left c.goes_on.new.input) (g.I.Source.left c.take_line.new.input) (100000 - old.lines)
+    (g.I.Source.faults c.args.input.now) (g.I.Source.faults c.goes_on.new.input) (g.I.Source.faults c.take_line.new.input) c.in-Err-take_line.fault a c.in-Ok-true.ensures.reported.unfailed
+    (omega (arith, c.if-intake-ge-MOST_LINES.false, a.0.1)) c.requires.room c.in-Err-take_line.ensures.fault
 
-pub returns-in-Ok-end-clause-line : goal.returns-in-Ok-end-clause-line
-returns-in-Ok-end-clause-line g c e = not_true e
-
-pub returns-in-Err-take-clause-line : goal.returns-in-Err-take-clause-line
-returns-in-Err-take-clause-line g c e = no_value _ _ e
-
-pub returns-in-Err-take-clause-end : goal.returns-in-Err-take-clause-end
-returns-in-Err-take-clause-end g c e = no_value _ _ e
-
-pub returns-in-Ok-Long-clause-line : goal.returns-in-Ok-Long-clause-line
-returns-in-Ok-Long-clause-line g c e = no_value _ _ e
-
-pub returns-in-Ok-Long-clause-end : goal.returns-in-Ok-Long-clause-end
-returns-in-Ok-Long-clause-end g c e = no_value _ _ e
-
-pub returns-in-Ok-Open-clause-line : goal.returns-in-Ok-Open-clause-line
-returns-in-Ok-Open-clause-line g c e = no_value _ _ e
-
-pub returns-in-Ok-Open-clause-end : goal.returns-in-Ok-Open-clause-end
-returns-in-Ok-Open-clause-end g c e = no_value _ _ e
-
-pub returns-in-Err-end-clause-line : goal.returns-in-Err-end-clause-line
-returns-in-Err-end-clause-line g c e = no_value _ _ e
-
-pub returns-in-Err-end-clause-end : goal.returns-in-Err-end-clause-end
-returns-in-Err-end-clause-end g c e = no_value _ _ e
-
-pub returns-in-Err-clause-line : goal.returns-in-Err-clause-line
-returns-in-Err-clause-line g c e = no_value _ _ e
-
-pub returns-in-Err-clause-end : goal.returns-in-Err-clause-end
-returns-in-Err-clause-end g c e = no_value _ _ e
+pub returns-in-Ok-take-clause-read : goal.returns-in-Ok-take-clause-read
+returns-in-Ok-take-clause-read g c =
+    let a = rw c.in-Ok-true.field-0-test at c.in-Ok-true.ensures.asked in
+    let x = c.in-Ok.line in
+    let h = c.in-Ok.ensures in
+    let r = rest_of c.args.intake.now (g.I.Source.left c.args.input.now) in
+    let here = rest_of c.goes_on.new.self (g.I.Source.left c.goes_on.new.input) in
+    let then = rest_of c.take_line.new.intake (g.I.Source.left c.take_line.new.input) in
+    record {
+      line = x;
+      may = h.line.0;
+      takes = c.in-Ok-take.ensures.taken;
+      bytes = keeps_then r here then (whole_line x) a.2 h.line.1;
+      few = omega (arith, c.if-intake-ge-MOST_LINES.false, a.0.1);
+      counted = omega (arith, h.lines, a.0.1);
+      room = omega (arith, h.room, a.1, ((readable c.args.draft.now c.requires.draft).lines x h.line.0).1);
+    }
