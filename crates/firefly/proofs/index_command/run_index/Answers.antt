@@ -22,7 +22,7 @@ returns-in-Err-clause-answers g c =
     let look = look_of g.S.Tree.tree g.S.Tree.may_fail g.S.Tree.calls g.S.Tree.faults in
     let out = change_of g.O.Sink.held g.O.Sink.faults c.args.out.now c.args.out.now in
     let notes = change_of g.N.Sink.held g.N.Sink.faults c.args.notes.now c.index_by.new.notes in
-    no_index (options_of c.args.options.now) (looks_of look c.args.trees.now) (looks_of look c.index_by.new.trees) out notes c.in-Err.status c.in-Err.ensures.status_of (refl, refl)
+    no_index (options_of c.args.options.now) (looks_of look c.args.trees.now) (looks_of look c.index_by.new.trees) out notes c.in-Err.status c.in-Err.ensures.refused (refl, refl)
 
 pub returns-in-Ok-clause-kept : goal.returns-in-Ok-clause-kept
 returns-in-Ok-clause-kept g c = λ n. c.in-Ok.ensures.kept (λ e. no_error e)

@@ -64,13 +64,13 @@ pub returns-in-Err-apply-clause-just : goal.returns-in-Err-apply-clause-just
 returns-in-Err-apply-clause-just g c =
     let u = c.loop-event.invariant.watching.under_way in
     let taken = rw c.in-Ok-Some.field-0-is at (c.in-Ok-Some.ensures.event u.phase) in
-    fails_on _ _ _ _ _ _ _ _ c.in-Ok-Some.event c.in-Err-apply.why u taken c.in-Err-apply.ensures.verdict_of
+    fails_on _ _ _ _ _ _ _ _ c.in-Ok-Some.event c.in-Err-apply.why u taken c.in-Err-apply.ensures.refused
 
 pub returns-in-Err-apply-clause-watched : goal.returns-in-Err-apply-clause-watched
 returns-in-Err-apply-clause-watched g c =
     let n = c.loop-event.invariant.watching in
     let taken = rw c.in-Ok-Some.field-0-is at (c.in-Ok-Some.ensures.event n.under_way.phase) in
-    seen_illegal g.W.Watch.keeps _ _ _ _ _ _ _ _ _ _ n _ c.in-Ok-Some.event c.in-Err-apply.why taken c.in-Err-apply.ensures.verdict_of
+    seen_illegal g.W.Watch.keeps _ _ _ _ _ _ _ _ _ _ n _ c.in-Ok-Some.event c.in-Err-apply.why taken c.in-Err-apply.ensures.refused
 
 pub returns-in-Ok-None-clause-just : goal.returns-in-Ok-None-clause-just
 returns-in-Ok-None-clause-just g c =

@@ -91,7 +91,7 @@ pub returns-in-Ok-end_failed-clause-just : goal.returns-in-Ok-end_failed-clause-
 returns-in-Ok-end_failed-clause-just g c =
     let u = c.loop-free.invariant.ringing.drawing.under_way in
     let taken = rw c.in-Ok-Some.field-0-is at (c.in-Ok-Some.ensures.event u.phase) in
-    fails_on _ _ _ _ _ _ _ _ c.in-Ok-Some.event c.in-Err-apply.why u taken c.in-Err-apply.ensures.verdict_of
+    fails_on _ _ _ _ _ _ _ _ c.in-Ok-Some.event c.in-Err-apply.why u taken c.in-Err-apply.ensures.refused
 
 pub returns-in-Ok-end_failed-clause-drawn : goal.returns-in-Ok-end_failed-clause-drawn
 returns-in-Ok-end_failed-clause-drawn g c =
@@ -99,7 +99,7 @@ returns-in-Ok-end_failed-clause-drawn g c =
     let d = drawing_room _ _ _ _ _ _ _ _ _ _ _ _ i.ringing.drawing (g.O.Sink.held c.make_room.new.out) (take c.in-Ok-make_room.free c.loop-free.buf) c.in-Ok-make_room.ensures.ok in
     let u = c.loop-free.invariant.ringing.drawing.under_way in
     let taken = rw c.in-Ok-Some.field-0-is at (c.in-Ok-Some.ensures.event u.phase) in
-    failed_got _ _ _ _ _ _ _ _ _ _ _ _ _ d _ (g.O.Sink.held c.end_failed.new.out) c.in-Ok.layout c.in-Ok-Some.event c.in-Err-apply.why i.laid taken c.in-Err-apply.ensures.verdict_of refl c.in-Ok-end_failed.ensures.ok
+    failed_got _ _ _ _ _ _ _ _ _ _ _ _ _ d _ (g.O.Sink.held c.end_failed.new.out) c.in-Ok.layout c.in-Ok-Some.event c.in-Err-apply.why i.laid taken c.in-Err-apply.ensures.refused refl c.in-Ok-end_failed.ensures.ok
 
 pub returns-in-Err-end_failed-clause-cut_off : goal.returns-in-Err-end_failed-clause-cut_off
 returns-in-Err-end_failed-clause-cut_off g c =

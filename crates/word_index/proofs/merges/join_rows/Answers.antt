@@ -101,7 +101,7 @@ loop-i-preserved c =
     let finds_a = rw (← c.a.view_is) at c.requires.first in
     let finds_b = rw (← c.b.view_is) at c.requires.second in
     let pushed = c.in_ok-push_merged-in-Equal.ensures in
-    let merged = rw (c.get-in-Equal-2.ensures, c.get-in-Equal-3.ensures, c.deref-in-Equal.ensures.value, c.deref-in-Equal-2.ensures.value) at pushed.merge_pieces in
+    let merged = rw (c.get-in-Equal-2.ensures, c.get-in-Equal-3.ensures, c.deref-in-Equal.ensures.value, c.deref-in-Equal-2.ensures.value) at pushed.merged in
     rw (c.in_ok-push-in-Equal.ensures.added, pushed.is, c.get-in-Equal.ensures)
     (tables_both (record { words = a.words; many = a.many; each = a.each; finds = finds_a }) (record { words = b.words; many = b.many; each = b.each; finds = finds_b }) c.loop-i.invariant equal.0 equal.1 equal.2 pushed.row merged)
 

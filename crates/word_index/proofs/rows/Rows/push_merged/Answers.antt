@@ -14,4 +14,4 @@ returns c =
     let old = c.self.inside in
     let e = c.end_part.ensures in
     let p = pushes old.places.items c.in-Ok.ensures.ok.row c.add_merged.new.out.items old.ends.items c.self.invariant c.in-Ok.ensures.ok.is c.end_part.result _ _ e.same e.ended in
-    rw (← c.self.view_is) (on_ok_then c.end_part.result p (λ is. record { row = c.in-Ok.ensures.ok.row; is = is; merged = c.in-Ok.ensures.ok.merge_pieces }))
+    rw (← c.self.view_is) (on_ok_then c.end_part.result p (λ is. record { row = c.in-Ok.ensures.ok.row; is = is; merged = c.in-Ok.ensures.ok.merged }))
