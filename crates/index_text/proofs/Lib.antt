@@ -10,6 +10,7 @@ pub mod States
 pub mod Loops
 pub mod Reasons
 pub mod Stopping
+pub mod Begun
 pub mod Bytes
 pub mod Keyed
 pub mod LineReads

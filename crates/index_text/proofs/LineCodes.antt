@@ -9,7 +9,7 @@ use Rattle.text_output.specs.Paths.{escaped, newline}
 use Rattle.index_print.specs.Text.{hit_line, skipped_line}
 use Rattle.index_text.specs.Numerals.{numeral}
 use Rattle.index_text.specs.Texts.{IsFigure, IsHit}
-use Rattle.index_text.specs.Lines.{Heading, word, skipped, key_at, figure_at, word_heading_at, heading_at, hit_from, hit_at, skipped_at}
+use Rattle.index_text.specs.Lines.{Heading, word, skipped, key_at, figure_at, word_heading_at, heading_at, hit_from, hit_prefix_at, hit_at, skipped_at}
 use Rattle.index_text.proofs.Numerals.{numeral_code}
 use Rattle.index_text.specs.Next.{IsLast, IsKey, IsLastPath, IsNext, IsHeading, heading_text}
 use Rattle.index_text.proofs.WordCode.{key_code}
@@ -29,7 +29,7 @@ abbrev IsSkippedHeading : Heading → Type 0
 IsSkippedHeading (word w n) = ⊥
 IsSkippedHeading (skipped p) = IsNext None p
 
-word_text : (w : List ℕ) (n : ℕ) → heading_text (word w n) ≡ (w ++ 32 ∷ []) ++ (numeral n ++ 10 ∷ [])
+pub word_text : (w : List ℕ) (n : ℕ) → heading_text (word w n) ≡ (w ++ 32 ∷ []) ++ (numeral n ++ 10 ∷ [])
 word_text w n = append_assoc (w ++ 32 ∷ []) (numeral n) newline
 
 word_heading_from : (last : Option (List ℕ)) (x : Heading) → IsWordHeading last x → (p : List ℕ × ℕ) × (IsKey last p.0 × (1 ≤ p.1)) × (x ≡ word p.0 p.1)
@@ -78,13 +78,20 @@ heading_code last ok =
     let second = as_code (skipped_code None none) skipped IsSkippedHeading heading_text (λ p h. (h, refl)) skipped_heading_from in
     same_code (or_code (word_heading_code last ok) second (headings_apart last ok)) (IsHeading last) heading_text (λ x. refl) (heading_to last) (heading_from last)
 
+abbrev pub prefix_text : ℕ × ℕ → List ℕ
+prefix_text p = codes "  " ++ ((decimal p.0 ++ 32 ∷ []) ++ (decimal p.1 ++ 32 ∷ []))
+
+-- the numbers of the line of a file
+pub hit_prefix_code : IsCode (λ (p : ℕ × ℕ). IsFigure p.0 × IsFigure p.1) prefix_text hit_prefix_at
+hit_prefix_code =
+    let numbers = then_code (figure_code 32 (omega arith)) (λ _ n. IsFigure n) (λ _ n. decimal n ++ 32 ∷ []) _ (λ _ _. figure_code 32 (omega arith)) (λ _ _. (1, one_figure)) in
+    word_code numbers (codes "  ") ((1, 1), (one_figure, one_figure))
+
+pub line_text : (c l : ℕ) (p : List ℕ) → hit_line (record { path = p; count = c; line = l }) ≡ prefix_text (c, l) ++ (escaped p ++ newline)
+line_text c l p = simp append_assoc
+
 pub hit_code : (last : Option (List ℕ)) → IsLastPath last → IsCode (IsHit last) hit_line (hit_at last)
 hit_code last ok =
-    let numbers = then_code (figure_code 32 (omega arith)) (λ _ n. IsFigure n) (λ _ n. decimal n ++ 32 ∷ []) _ (λ _ _. figure_code 32 (omega arith)) (λ _ _. (1, one_figure)) in
-    let prefix = word_code numbers (codes "  ") ((1, 1), (one_figure, one_figure)) in
-    as_code (then_code prefix (λ _ p. IsNext last p) (λ _ p. path_text p) _ (λ _ _. path_code last ok) (λ _ _. some_next last ok)) hit_from (IsHit last) hit_line
+    as_code (then_code hit_prefix_code (λ _ p. IsNext last p) (λ _ p. path_text p) _ (λ _ _. path_code last ok) (λ _ _. some_next last ok)) hit_from (IsHit last) hit_line
     (λ x h. (record { path = h.1.0; above = h.1.1; count = h.0.0; line = h.0.1 }, line_text x.0.0 x.0.1 x.1))
     (λ h k. (((h.count, h.line), h.path), ((k.count, k.line), (k.path, k.above)), refl))
-  where
-    line_text : (c l : ℕ) (p : List ℕ) → hit_line (record { path = p; count = c; line = l }) ≡ (codes "  " ++ ((decimal c ++ 32 ∷ []) ++ (decimal l ++ 32 ∷ []))) ++ (escaped p ++ newline)
-    line_text c l p = simp append_assoc

@@ -1,5 +1,5 @@
 -- Line after line of an index text.
-use Rattle.std.proofs.Common.{◌≡◌, ◌⊎◌, ℕ, zero, suc, ◌+◌, ◌-◌, ◌<◌, List, [], ◌∷◌, ◌++◌, length, arith, refl, sym, ap, subst, ◌∙◌, append_assoc, length-append, Option, Some, None, slice_get, Result}
+use Rattle.std.proofs.Common.{◌≡◌, ◌⊎◌, ℕ, suc, ◌+◌, ◌-◌, ◌<◌, List, [], ◌∷◌, ◌++◌, length, arith, refl, sym, ap, subst, ◌∙◌, append_assoc, length-append, Option, Some, None, slice_get, Result}
 use Rattle.std.specs.List.{flat_map}
 use Rattle.exact_text.specs.declared.stop.Stop.{Stop}
 use Rattle.exact_text.specs.Codes.{IsCode}

@@ -1,6 +1,7 @@
 -- Numbers of any size, read exactly.
-use Rattle.std.proofs.Common.{◌≡◌, ◌⊎◌, ℕ, zero, suc, ◌+◌, ◌-◌, ◌*◌, ◌/◌, ◌%◌, ◌^◌, ◌<◌, ◌≤◌, inl, inr, List, [], ◌∷◌, ◌++◌, refl, ap, sym, subst, ◌∙◌, append_assoc, append-nil, true, false, Ok, Err, arith, rules, tests}
-use Rattle.std.proofs.lemmas.Bool.{eqb-true, eq-eqb}
+use Rattle.std.proofs.Common.{◌≡◌, ◌⊎◌, ℕ, zero, suc, ◌+◌, ◌-◌, ◌*◌, ◌/◌, ◌%◌, ◌^◌, ◌<◌, ◌≤◌, inl, inr, List, [], ◌∷◌, ◌++◌, length, refl, ap, sym, subst, ◌∙◌, append_assoc, append-nil, true, false, Ok, Err, arith, rules, tests}
+use Rattle.std.proofs.lemmas.Bool.{eqb-true, eq-eqb, ne_eqb}
+use Rattle.std.specs.List.{AllByRecursion}
 use Rattle.std.proofs.lemmas.Bool.Decides.{nat_tests}
 use Rattle.std.proofs.lemmas.Fmt.{decimal_by_steps}
 use Rattle.std.specs.Prelude.{◌==◌, nat_lt, decimal}
@@ -112,6 +113,34 @@ from_more stop v (c ∷ bytes) some e =
                 (ih.0, ih.1, sym (append_assoc (numeral v) (c ∷ []) bytes) ∙ ap (λ l. l ++ bytes) (sym d) ∙ ih.2)
             | inr q ↦ let h = q.1 in absurd (cc)
           ]
+    ]
+
+-- digits after the beginning of a number go on with it
+abbrev pub Digits : List ℕ → Type 0
+Digits ds = AllByRecursion (λ b. is_digit b ≡ true) ds
+
+from_goes : (stop : ℕ) → stop < 48 → (v : ℕ) (ds more : List ℕ) → digits_from stop v ds ≡ Err More → Digits more → digits_from stop v (ds ++ more) ≡ Err More
+from_goes stop low v [] [] e d = refl
+from_goes stop low v [] (c ∷ more) e d =
+    let f = is_digit-facts c d.0 in
+    let apart : (c == stop) ≡ false = ne_eqb c stop (λ h. omega (arith, h, f.0, low)) in
+    rw (apart, d.0) (from_goes stop low (10 * v + (c - 48)) [] more refl d.1)
+from_goes stop low v (c ∷ ds) more e d =
+    elim (chosen (c == stop) _ _ _ e) [
+      | inl p ↦ let h = p.1 in absurd (cc)
+      | inr p ↦
+          elim (chosen (is_digit c) _ _ _ p.1) [
+            | inl q ↦ rw (p.0, q.0) (from_goes stop low (10 * v + (c - 48)) ds more q.1 d)
+            | inr q ↦ let h = q.1 in absurd (cc)
+          ]
+    ]
+
+pub numeral_goes : (stop : ℕ) → stop < 48 → (ds more : List ℕ) → 0 < length ds → numeral_at stop ds ≡ Err More → Digits more → numeral_at stop (ds ++ more) ≡ Err More
+numeral_goes stop low [] more some e d = absurd (omega (arith, some))
+numeral_goes stop low (c ∷ ds) more some e d =
+    elim (chosen (is_leading c) _ _ _ e) [
+      | inl p ↦ rw p.0 (from_goes stop low (c - 48) ds more p.1 d)
+      | inr p ↦ let h = p.1 in absurd (cc)
     ]
 
 from_dead : (stop v : ℕ) (bytes more : List ℕ) → digits_from stop v bytes ≡ Err Dead → digits_from stop v (bytes ++ more) ≡ Err Dead

@@ -12,7 +12,7 @@ use Rattle.exact_text.specs.Codes.{IsCode}
 use Rattle.exact_text.proofs.CodeLaws.{as_code}
 use Rattle.text_output.specs.Paths.{escaped, newline}
 use Rattle.word_index.specs.Index.{IsBelow}
-use Rattle.index_text.specs.Texts.{IsPath, IsAbove}
+use Rattle.index_text.specs.Texts.{IsAbove}
 use Rattle.index_text.specs.Lines.{unescaped, put, path_of, prefix_of, plain, is_no_newline, is_above, is_path, is_path_prefix, may_be_path, begins_last, path_at}
 use Rattle.index_text.specs.Next.{IsLastPath, IsNext}
 use Rattle.index_text.proofs.Orders.{below_cons, below_first, below_prefix, below_cancel, below_longer, below_more, below_or_prefix, prefix_rest}
@@ -113,7 +113,7 @@ one_tried last q e after_f0 h = or_right (t6 last q) (try last q (144 ∷ 128 �
 begun : (last : Option (List ℕ)) (q : List ℕ) → begins_last last q ≡ true → may_be_path last q ≡ true
 begun last q h = up2 last q (or_left (t1 last q) (try last q (97 ∷ [])) (or_left (begins_last last q) (is_path last (Some q)) h))
 
-above_grown : (last : Option (List ℕ)) (q e : List ℕ) → IsAbove last q → IsAbove last (q ++ e)
+pub above_grown : (last : Option (List ℕ)) (q e : List ℕ) → IsAbove last q → IsAbove last (q ++ e)
 above_grown None q e h = tt
 above_grown (Some l) q e h = below_more l q e h
 

@@ -1,6 +1,6 @@
 -- Why a text wasn't taken, seen from before.
-use Rattle.std.proofs.Common.{◌≡◌, ◌⊎◌, inl, inr, ℕ, ◌+◌, ◌-◌, ◌<◌, ◌≤◌, List, [], ◌∷◌, ◌++◌, length, length-append, length-take, take, refl, ap, sym, subst, ◌∙◌, append-nil, Result, Ok, Err, Option, Some, None, IfSome, Bool, true, false, arith}
-use Rattle.std.specs.Io.KnownBytes.{Consumes, IsAtEnd, Keeps, prepend_known}
+use Rattle.std.proofs.Common.{◌≡◌, ◌⊎◌, inl, inr, ℕ, ◌+◌, ◌-◌, ◌<◌, List, [], ◌++◌, length, length-append, length-take, take, ap, sym, subst, ◌∙◌, append-nil, Result, Ok, Err, Option, Some, None, IfSome, Bool, true, false, arith}
+use Rattle.std.specs.Io.KnownBytes.{Consumes, Keeps, prepend_known}
 use Rattle.std.proofs.KnownBytes.{Consumes-trans}
 use Rattle.exact_text.specs.declared.intake.Intake.{Intake}
 use Rattle.exact_text.specs.declared.stop.Stop.{Stop}

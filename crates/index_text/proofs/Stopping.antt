@@ -1,6 +1,5 @@
 -- A line that more bytes may complete.
-use Rattle.std.proofs.Common.{◌≡◌, ◌⊎◌, inl, inr, ℕ, ◌+◌, ◌-◌, ◌<◌, ◌≤◌, List, [], ◌∷◌, ◌++◌, length, length-append, drop, refl, ap, sym, subst, ◌∙◌, Result, Ok, Err, Option, Some, None, true, false, arith}
-use Rattle.std.specs.Io.KnownBytes.{Keeps}
+use Rattle.std.proofs.Common.{◌≡◌, inl, inr, ℕ, ◌+◌, ◌-◌, ◌<◌, ◌≤◌, List, length, length-append, drop, refl, ap, sym, subst, ◌∙◌, Result, Ok, Err, Option, true, arith}
 use Rattle.std.proofs.KnownBytes.{Keeps-trans}
 use Rattle.std.proofs.lemmas.List.{drop_at}
 use Rattle.exact_text.specs.declared.intake.Intake.{Intake}
@@ -16,18 +15,12 @@ use Rattle.exact_text.proofs.Grammar.{line_some}
 use Rattle.exact_text.proofs.Stuck.{read_outcome, length_outcome, stuck_dead, stuck_cut, stuck_fault, Keeps-after, Keeps-refl}
 use Rattle.index_text.specs.declared.fault.Stop.{Stop}
 use Rattle.index_text.specs.declared.fault.Stop.TheVariants.{Memory, More, Dead}
-use Rattle.index_text.specs.Next.{IsTaken, Tries, GoesOn, TakesLine}
+use Rattle.index_text.specs.Next.{Tries, GoesOn, TakesLine}
 use Rattle.index_text.specs.Steps.{Stops}
-
--- bytes came, and no line was read
-pub record IsWaiting (start now : Intake) (left left' : Option (List ℕ)) (before since : ℕ) : Type 0 where
-  pub lines : now.lines ≡ start.lines
-  pub room : room_of now ≡ room_of start
-  pub rest : Keeps (rest_of start left) (rest_of now left')
-  pub unfailed : since ≡ before
+use Rattle.index_text.specs.Long.{IsWaiting}
 
 pub waits : (start : Intake) (left : Option (List ℕ)) (before : ℕ) → IsWaiting start start left left before before
-waits start left before = record { lines = refl; room = refl; rest = Keeps-refl (rest_of start left); unfailed = refl }
+waits start left before = record { lines = refl; room = refl; rest = Keeps-refl (rest_of start left); unfailed = refl; given = omega arith; budget = refl }
 
 module _ {start now : Intake} {left left' : Option (List ℕ)} {before since : ℕ} (w : IsWaiting start now left left' before since) where
   -- more came
@@ -39,6 +32,8 @@ module _ {start now : Intake} {left left' : Option (List ℕ)} {before since : �
         room = f.2 ∙ w.room;
         rest = Keeps-trans (rest_of start left) (rest_of now left') (rest_of new there) w.rest f.3;
         unfailed = reported ∙ w.unfailed;
+        given = omega (arith, w.given, f.1);
+        budget = f.0.0 ∙ w.budget;
       }
 
   module _ {X Y : Type 0} {lawful : X → Type 0} {text : X → List ℕ} {read : List ℕ → Result (X × List ℕ) exact.Stop} (code : IsCode lawful text read) (says : Y → X → Type 0) where

@@ -1,5 +1,5 @@
 -- What was taken so far.
-use Rattle.std.proofs.Common.{◌≡◌, ℕ, suc, ◌+◌, ◌-◌, ◌^◌, ◌<◌, ◌≤◌, List, [], ◌∷◌, ◌++◌, length, arith, refl, sym, ap, subst, ◌∙◌, append_assoc, append-nil, length-append, Option, Some, None, Ok, Err, slice_get, Result, true, false}
+use Rattle.std.proofs.Common.{◌≡◌, ℕ, suc, ◌+◌, ◌-◌, ◌<◌, ◌≤◌, List, [], ◌∷◌, ◌++◌, length, arith, refl, sym, ap, subst, ◌∙◌, append_assoc, append-nil, length-append, Option, Some, None, Ok, Err, slice_get, Result, true, false}
 use Rattle.std.specs.Prelude.{codes}
 use Rattle.std.specs.List.{flat_map}
 use Rattle.std.proofs.lemmas.List.{length_push}
@@ -12,7 +12,7 @@ use Rattle.exact_text.specs.Long.{IsLongAsked}
 use Rattle.text_output.specs.Paths.{newline}
 use Rattle.word_index.specs.Index.{Hit, Row}
 use Rattle.index_print.specs.Text.{hit_line, skipped_line}
-use Rattle.index_table.specs.Rows.{Drafted, paths_of}
+use Rattle.index_table.specs.Rows.{Drafted}
 use Rattle.index_text.specs.declared.lines.Prefix.{Prefix}
 use Rattle.index_text.specs.declared.lines.Prefix.TheVariants as prefixes
 use Rattle.index_text.specs.Numerals.{numeral, capped}

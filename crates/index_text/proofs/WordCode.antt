@@ -10,7 +10,7 @@ use Rattle.std.proofs.Math.Seq.{drop-append_seam}
 use Rattle.exact_text.specs.Codes.{IsCode}
 use Rattle.exact_text.proofs.CodeLaws.{same_code}
 use Rattle.word_index.specs.Index.{IsBelow}
-use Rattle.index_text.specs.Texts.{is_key_byte, IsWord, IsAbove}
+use Rattle.index_text.specs.Texts.{is_key_byte, IsAbove}
 use Rattle.index_text.specs.Next.{IsLast, IsKey}
 use Rattle.index_text.specs.Lines.{is_good_word, may_be_word, key_at, is_above, is_prefix}
 use Rattle.index_text.proofs.Orders.{below_cons, below_first, below_rest, below_prefix, below_cancel, below_longer, below_or_prefix, prefix_rest}

@@ -5,5 +5,6 @@ pub mod Faults
 pub mod Steps
 pub mod Escapes
 pub mod Next
+pub mod Long
 pub mod Takes
 pub mod Laws

@@ -1,6 +1,6 @@
 -- Which line may come next, and what it means that it was taken.
-use Rattle.std.specs.Prelude.{◌≡◌, ◌⊎◌, ℕ, ◌+◌, ◌≤◌, List, ◌++◌, length, codes, Bool, true, false, Option, Some, None, Result, Ok, Err}
-use Rattle.std.specs.Io.KnownBytes.{Consumes, Keeps}
+use Rattle.std.specs.Prelude.{◌≡◌, ◌⊎◌, ℕ, ◌+◌, ◌≤◌, List, ◌++◌, length, codes, true, false, Option, Some, None, Result, Ok, Err}
+use Rattle.std.specs.Io.KnownBytes.{Consumes}
 use Rattle.exact_text.specs.declared.intake.Intake.{Intake}
 use Rattle.exact_text.specs.declared.stop.Stop as exact
 use Rattle.exact_text.specs.declared.fault.TextFault.{TextFault}
@@ -12,7 +12,7 @@ use Rattle.index_print.specs.Text.{skipped_line}
 use Rattle.word_index.specs.Index.{Hit}
 use Rattle.index_text.specs.declared.lines.Prefix.{Prefix}
 use Rattle.index_text.specs.declared.fault.Stop.{Stop}
-use Rattle.index_text.specs.declared.fault.Stop.TheVariants.{Memory, More, Dead}
+use Rattle.index_text.specs.declared.fault.Stop.TheVariants.{More, Dead}
 use Rattle.index_text.specs.Numerals.{numeral}
 use Rattle.index_text.specs.Texts.{IsWord, IsPath, IsAbove}
 use Rattle.index_text.specs.Lines.{Heading, word, skipped, capped_heading, hit_from}

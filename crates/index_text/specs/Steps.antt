@@ -1,5 +1,5 @@
 -- What one line gives.
-use Rattle.std.specs.Prelude.{◌≡◌, ℕ, Bool, true, take, ◌-◌, List, [], ◌∷◌, ◌++◌, length, slice_get, Option, Some, None, Result, Ok, Err}
+use Rattle.std.specs.Prelude.{◌≡◌, ℕ, Bool, true, take, ◌-◌, List, ◌++◌, length, slice_get, Option, Some, None, Result, Ok, Err}
 use Rattle.std.specs.List.{flat_map, AllByRecursion}
 use Rattle.exact_text.specs.declared.stop.Stop as exact
 use Rattle.exact_text.specs.declared.stop.Stop.TheVariants as stops

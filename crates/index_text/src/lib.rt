@@ -10,6 +10,7 @@ mod fault;
 mod key;
 pub mod laws;
 mod lines;
+mod long;
 mod next;
 mod path;
 mod read;

@@ -81,8 +81,8 @@ pub fn heading<'b>(
     }
 }
 
-// Reads the numbers of the line of a file.
-fn hit_prefix(bytes: &[u8]) -> Result<(u64, u64, &[u8]), Stop>
+/// Reads the numbers of the line of a file.
+pub fn hit_prefix(bytes: &[u8]) -> Result<(u64, u64, &[u8]), Stop>
     ensures { Gives (λ x. ((x.0, x.1), x.2.now)) result (hit_prefix_at bytes.now) }
 {
     let rest = match word(bytes, b"  ") {

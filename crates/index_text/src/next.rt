@@ -10,11 +10,12 @@ ghost use Rattle.index_text.specs.Next.{GoesOn, Tries, TakesLine, SaysHeading, S
 
 use crate::fault::Stop;
 use crate::lines::{Prefix, heading, hit, skipped_line};
+use crate::long::{await_heading, await_hit, await_skipped};
 use exact_text::{LongIntake, TextFault};
 use firefly_outside::Source;
 
-// More bytes, if they may complete the line; else why it isn't read.
-fn after_stop<I: Source>(
+/// More bytes, if they may complete the line; else why it isn't read.
+pub fn after_stop<I: Source>(
     intake: &mut LongIntake,
     input: &mut I,
     stop: Stop,
@@ -75,6 +76,10 @@ pub fn next_heading<I: Source>(
                 Err(fault) => return Err(fault),
             },
         }
+        match await_heading(intake, input, last, out) {
+            Ok(()) => {}
+            Err(fault) => return Err(fault),
+        }
     }
 }
 
@@ -117,6 +122,10 @@ pub fn next_hit<I: Source>(
                 Err(fault) => return Err(fault),
             },
         }
+        match await_hit(intake, input, last, out) {
+            Ok(()) => {}
+            Err(fault) => return Err(fault),
+        }
     }
 }
 
@@ -155,6 +164,10 @@ pub fn next_skipped<I: Source>(
                 Ok(()) => {}
                 Err(fault) => return Err(fault),
             },
+        }
+        match await_skipped(intake, input, last, out) {
+            Ok(()) => {}
+            Err(fault) => return Err(fault),
         }
     }
 }

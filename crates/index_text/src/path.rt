@@ -10,16 +10,16 @@ use crate::key::{above, begins};
 use std::alloc::AllocError;
 use std::str::from_utf8;
 
-// How the bytes of a path on a line end: well, after a backslash, or not at all.
+/// How the bytes of a path on a line end: well, after a backslash, or not at all.
 #[derive(Clone, Copy)]
-enum Ending {
+pub enum Ending {
     Whole,
     Open,
     Broken,
 }
 
-// The place of the first newline, or the end.
-fn line_end(bytes: &[u8]) -> usize
+/// The place of the first newline, or the end.
+pub fn line_end(bytes: &[u8]) -> usize
     ensures within { result ≤ length bytes.now }
     ensures ends { result < length bytes.now → slice_index bytes.now result ≡ 10 }
     ensures keys { IsPassed is_no_newline bytes.now result }
@@ -57,8 +57,8 @@ fn taken(pending: bool, b: u8) -> Step
     }
 }
 
-// Lays down what the bytes stand for.
-fn unescape(bytes: &[u8], out: &mut Vec<u8>) -> Result<Ending, AllocError>
+/// Lays down what the bytes stand for.
+pub fn unescape(bytes: &[u8], out: &mut Vec<u8>) -> Result<Ending, AllocError>
     ensures { IfOk result (Unescapes bytes.now out.new.items) }
 {
     out.clear();

@@ -1,10 +1,10 @@
 use Rattle.std.specs.Option.{option_copied}
-use Rattle.std.proofs.Common.{arith, ap}
-use Rattle.exact_text.specs.declared.intake.Intake.{Intake}
+use Rattle.std.proofs.Common.{refl}
 use Rattle.exact_text.proofs.Reported.{same_reported, fault_reported}
 use Rattle.index_text.specs.Next.{SaysHit}
 use Rattle.index_text.proofs.LineCodes.{hit_code}
 use Rattle.index_text.proofs.Stopping.{waits, waits_on, line_taken, line_stuck}
+use Rattle.index_text.proofs.Begun.{line_awaits}
 use Rattle.index_text.proofs.next.next_hit.Goals as goal
 
 pub loop-figures-init : goal.loop-figures-init
@@ -25,12 +25,9 @@ returns-in-Err-after_stop-clause-taken g c =
 pub returns-in-Err-after_stop-clause-reported : goal.returns-in-Err-after_stop-clause-reported
 returns-in-Err-after_stop-clause-reported g c = fault_reported _ _ _ c.in-Err-after_stop.fault c.loop-figures.invariant.unfailed c.in-Err-after_stop.ensures.reported
 
-pub loop-figures-preserved : goal.loop-figures-preserved
-loop-figures-preserved g c =
-    waits_on c.loop-figures.invariant c.try_hit.new.intake c.after_stop.new.intake (g.I.Source.left c.after_stop.new.input) (g.I.Source.faults c.after_stop.new.input) c.in-Err.stop c.in-Err.ensures.1
-    c.in-Ok-after_stop.ensures.goes_on c.in-Ok-after_stop.ensures.reported.unfailed
-
-pub loop-figures-smaller : goal.loop-figures-smaller
-loop-figures-smaller g c =
-    let f = c.in-Ok-after_stop.ensures.goes_on.1 in
-    omega (arith, f.0.0, f.1, c.after_stop.new.intake.within, ap (λ (i : Intake). i.given) c.in-Err.ensures.1, ap (λ (i : Intake). i.budget) c.in-Err.ensures.1)
+pub returns-in-Err-await_hit-clause-taken : goal.returns-in-Err-await_hit-clause-taken
+returns-in-Err-await_hit-clause-taken g c =
+    line_awaits (hit_code (option_copied c.args.last) c.requires) (SaysHit c.try_hit.new.out.items) refl c.args.intake.now c.await_hit.new.intake (g.I.Source.left c.await_hit.new.input) (g.I.Source.faults c.args.input.now) (g.I.Source.faults c.await_hit.new.input)
+    c.after_stop.new.intake (g.I.Source.left c.args.input.now) (g.I.Source.left c.after_stop.new.input) (g.I.Source.faults c.after_stop.new.input) c.in-Err-await_hit.fault
+    (waits_on c.loop-figures.invariant c.try_hit.new.intake c.after_stop.new.intake (g.I.Source.left c.after_stop.new.input) (g.I.Source.faults c.after_stop.new.input) c.in-Err.stop c.in-Err.ensures.1
+    c.in-Ok-after_stop.ensures.goes_on c.in-Ok-after_stop.ensures.reported.unfailed) c.in-Err-await_hit.ensures.awaits

@@ -1,5 +1,5 @@
 use Rattle.std.proofs.Common.{◌-◌}
-use Rattle.index_text.proofs.Stopping.{IsWaiting}
+use Rattle.index_text.specs.Long.{IsWaiting}
 use Rattle.index_text.proofs.next.next_hit.Given as goal
 
 abbrev pub invariant-loop-figures : goal.invariant-loop-figures
