@@ -34,11 +34,15 @@ impl Model for LongIntake {
     } };
 }
 
-// Removes the first bytes.
+// Removes the first bytes. If there are none to remove, nothing is moved: while a long line comes, this
+// is called for each of its parts.
 fn cut_front(held: &mut Vec<u8>, count: usize)
     requires { count ≤ length held.old.items }
     ensures { held.new.items ≡ drop count held.old.items }
 {
+    if count == 0 {
+        return;
+    }
     let left = held.len() - count;
     held.copy_within(count.., 0);
     held.truncate(left);
