@@ -116,14 +116,14 @@ module _ {T H W : Type 0} where
       won_untraced = let G : Known T H W → Known T H W = λ k. record k { entries = u.entries; lost = u.lost; next = u.next } in ap G won_once
 
   -- the thread o has read its number as b, has tried the bit as u, and has given the pen back as z
-  module _ (o b u z : Known T H W) (pen : o.pen ≡ No) (began : b ≡ record o { part = record o.part { pen = b.pen }; next = b.next }) (recorded : z ≡ record u { part = record u.part { pen = No }; entries = z.entries; lost = z.lost }) where
+  module _ (o b u z : Known T H W) (pen : o.pen ≡ No) (began : b ≡ record o { part = record o.part { pen = b.pen }; next = b.next }) (tells : z ≡ record u { part = record u.part { pen = No }; entries = z.entries; lost = z.lost }) where
     pub won_traced : (f t : List ℕ → List ℕ) (q : Pen) → u ≡ record b { part = record (learnt b.part u.part) { held = u.held; wait = None; failed = f b.failed; turns = t b.turns; pen = q }; values = u.values }
         → z ≡ record (recorded o z (λ q. record q { held = z.held; wait = None; failed = f o.failed; turns = t o.turns })) { values = z.values }
     won_traced f t q won =
         let G : Known T H W → Known T H W = λ k. record k { part = record k.part { seen = z.seen; mine = z.mine; places = z.places; held = z.held }; next = z.next; values = z.values } in
         let F : Known T H W → Known T H W = λ k. record k { part = record k.part { seen = z.seen; mine = z.mine; places = z.places; held = z.held; pen = No }; next = z.next; values = z.values; entries = z.entries; lost = z.lost } in
         let E : Known T H W → Pen → Known T H W = λ k p. record (recorded k z (λ q. record q { held = z.held; wait = None; failed = f k.failed; turns = t k.turns; pen = p })) { values = z.values } in
-        ap G recorded ∙ ap F won ∙ ap (λ k. E k No) began ∙ ap (E o) (sym pen)
+        ap G tells ∙ ap F won ∙ ap (λ k. E k No) began ∙ ap (E o) (sym pen)
 
     pub lost_traced : (f t : List ℕ → List ℕ) → (z.entries ≡ u.entries) × (z.lost ≡ u.lost) → u ≡ record b { part = record b.part { failed = f b.failed; turns = t b.turns } }
         → z ≡ record o { part = record o.part { failed = f o.failed; turns = t o.turns }; next = z.next }
@@ -132,13 +132,13 @@ module _ {T H W : Type 0} where
         let F : Known T H W → Known T H W = λ k. record k { part = record k.part { pen = No }; next = z.next; entries = z.entries; lost = z.lost } in
         let E : Known T H W → Known T H W = λ k. record k { part = record k.part { failed = f k.failed; turns = t k.turns; pen = No }; next = z.next; entries = z.entries; lost = z.lost } in
         let D : Pen → List Entry → Bool → Known T H W = λ p l y. record o { part = record o.part { failed = f o.failed; turns = t o.turns; pen = p }; next = z.next; entries = l; lost = y } in
-        ap G recorded ∙ ap F lost ∙ ap E began ∙ ap (λ p. D p z.entries z.lost) (sym pen)
+        ap G tells ∙ ap F lost ∙ ap E began ∙ ap (λ p. D p z.entries z.lost) (sym pen)
         ∙ ap (λ l. D o.pen l z.lost) (kept.0 ∙ (ap (λ k. k.entries) lost ∙ ap (λ k. k.entries) began))
         ∙ ap (D o.pen o.entries) (kept.1 ∙ (ap (λ k. k.lost) lost ∙ ap (λ k. k.lost) began))
 
     pub taken_traced : (fits : W → ℕ → T → ℕ → H → Type 0) (at : Object) → IsTaken fits at b u → IsTaken fits at o z
     taken_traced fits at taken =
-        taken_on fits at o u z (ap (λ k. k.held) recorded) (ap (λ k. k.values) recorded)
+        taken_on fits at o u z (ap (λ k. k.held) tells) (ap (λ k. k.values) tells)
         (taken_from fits at o b u (ap (λ k. k.number) began) (ap (λ k. k.world) began) (ap (λ k. k.held) began) (ap (λ k. k.share) began) (ap (λ k. k.values) began) taken)
 
   -- the thread o has the spin word of n as i, and is z when it has given it back

@@ -11,7 +11,7 @@ ghost use Rattle.walker.specs.Walk.{IsWalkOf};
 
 use crate::faults::fault_answer;
 use crate::findings::Findings;
-use crate::visited::collected;
+use crate::visited::collect;
 use crate::whole_piece::whole_of;
 use firefly_outside::Tree;
 use std::alloc::Global;
@@ -54,7 +54,7 @@ pub fn decide<S: Tree>(
         drop(fault);
         return WalkAnswer::Memory;
     }
-    let Ok(walked) = collected(alloc, root, visits) else {
+    let Ok(walked) = collect(alloc, root, visits) else {
         drop(pieces);
         drop(fault);
         return WalkAnswer::Memory;

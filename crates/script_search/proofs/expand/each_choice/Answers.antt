@@ -23,6 +23,6 @@ returns-clause-ok c =
     let t = c.args.node.now.thread in
     let cs = c.args.choices.now in
     let all = three_tried l xs m c.args.found.now c.maybe.new.found c.maybe-2.new.found c.maybe-3.new.found t cs (get_or cs 0 None) (get_or cs 1 None) (get_or cs 2 None)
-    c.in-Ok.first c.in-Ok-maybe.second c.in-Ok-maybe-2.third (list_of_three None cs c.reported-choices) c.in-Ok.ensures.ok c.in-Ok-maybe.ensures.ok c.in-Ok-maybe-2.ensures.ok in
+    c.in-Ok.first c.in-Ok-maybe.second c.in-Ok-maybe-2.third (list_of_three None cs c.told-choices) c.in-Ok.ensures.ok c.in-Ok-maybe.ensures.ok c.in-Ok-maybe-2.ensures.ok in
     let is = c.either-2.ensures ∙ ap (λ (b : Bool). b || c.in-Ok-maybe-2.third) c.either.ensures in
     subst (λ (r : Bool). Tries l xs c.args.found.now c.maybe-3.new.found m (AreTried t cs) r) (sym is) all
