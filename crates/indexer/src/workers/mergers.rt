@@ -50,7 +50,7 @@ fn merge_once<R: Wait>(
 }
 
 // The findings of a merger: its pieces, merged as far as they may be.
-fn merge_all(alloc: Global, mut kept: Vec<Piece>, lost: bool) -> Findings
+fn findings_of(alloc: Global, mut kept: Vec<Piece>, lost: bool) -> Findings
     requires { AreApart kept.items }
     ensures pieces { AreMergedFrom kept.items result.pieces.items }
     ensures visits { result.visits.items ≡ [] }
@@ -88,8 +88,8 @@ pub fn merge_all<R: Wait>(
     for _ in rt.forever() {
         match merge_once(rt, p, me, &mut kept) {
             Ok(true) => {}
-            Ok(false) => return merge_all(alloc, kept, false),
-            Err(_) => return merge_all(alloc, kept, true),
+            Ok(false) => return findings_of(alloc, kept, false),
+            Err(_) => return findings_of(alloc, kept, true),
         }
     }
     unreachable!()
