@@ -25,7 +25,7 @@ fn sums_of(piece: &Piece, files: u32) -> SampleSums
 }
 
 // The sums of the index, unless memory ran out.
-fn sums_of(answer: IndexAnswer, files: u32) -> Result<SampleSums, AllocError>
+fn sums_in(answer: IndexAnswer, files: u32) -> Result<SampleSums, AllocError>
     requires { IsDoneOrMemory answer }
     ensures { IfOk result (SumsAnswer files answer) }
 {
@@ -70,5 +70,5 @@ pub fn index_summary<R: Threads + Wait + Sync>(
         &BeginsAtOnce,
     );
     drop(trees);
-    sums_of(answer, files)
+    sums_in(answer, files)
 }

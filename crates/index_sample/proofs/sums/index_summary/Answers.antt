@@ -34,8 +34,8 @@ index-answer-requires-clause-tell g c κs within =
     let a = subst (AreSamples c.args.seed c.args.files) (sym c.as_mut_slice.ensures.value) c.in_ok-trees.ensures in
     (Some a.tree, λ k s e. ap (λ (t : Contents). Some t) (tree_at a.tree c.as_mut_slice.result.now a.each k s e))
 
-pub sums_of-requires : goal.sums_of-requires
-sums_of-requires g c =
+pub sums_in-requires : goal.sums_in-requires
+sums_in-requires g c =
     let a = subst (AreSamples c.args.seed c.args.files) (sym c.as_mut_slice.ensures.value) c.in_ok-trees.ensures in
     ends_so c.args.seed c.args.files the_plan c.as_mut_slice.result.now c.index-answer.new.trees refl c.requires.few a c.index-answer.result
     (c.index-answer.ensures.says (Some a.tree) (λ k s e. ap (λ (t : Contents). Some t) (tree_at a.tree c.as_mut_slice.result.now a.each k s e)))
@@ -44,7 +44,7 @@ sums_of-requires g c =
 pub returns : goal.returns
 returns g c =
     let a = subst (AreSamples c.args.seed c.args.files) (sym c.as_mut_slice.ensures.value) c.in_ok-trees.ensures in
-    IfOk-then c.sums_of.result
+    IfOk-then c.sums_in.result
     (summary_of c.args.seed c.args.files the_plan c.as_mut_slice.result.now a c.index-answer.result
     (c.index-answer.ensures.says (Some a.tree) (λ k s e. ap (λ (t : Contents). Some t) (tree_at a.tree c.as_mut_slice.result.now a.each k s e))))
-    c.sums_of.ensures
+    c.sums_in.ensures
