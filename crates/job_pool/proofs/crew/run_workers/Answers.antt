@@ -12,7 +12,7 @@ run_crew-done-requires-clause-jobs g c κs within =
     (λ w ready. (
       ready,
       (
-        record { owned = c.type_bounds.send-J.owned; leaving = λ k. Quiet-if {D = g.places.J.Denot} (k (of_param 0)) unseen unseen (λ y w. tt) (λ y w. tt) },
+        record { owned = c.type_bounds.send-J.owned; leaving = λ k. Quiet-if {D = g.row.J.Denot} (k (of_param 0)) unseen unseen (λ y w. tt) (λ y w. tt) },
         search (sendable, c.type_bounds.sync-R) depth 20,
       ),
     ))

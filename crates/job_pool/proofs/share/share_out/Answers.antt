@@ -48,7 +48,7 @@ batches_out-requires-clause-full g c =
     let len = c.len-many.ensures in
     let ok = c.args.batches.ok.0 in
     let none = ap length c.in-Ok-rooms_for.ensures.places in
-    let nothing : Opt (Batch g.places.J.Denot) = None in
+    let nothing : Opt (Batch g.row.J.Denot) = None in
     let many = length-replicate c.len-many.result nothing in
     let wide = c.share_all-threads.ensures.wide in
     let ok2 = rooms.places.ok.0 in
@@ -61,7 +61,7 @@ pub batches_out-requires-clause-room : goal.batches_out-requires-clause-room
 batches_out-requires-clause-room g c =
     let out = c.in-Ok-rooms_for.ensures.out in
     let wide = out.1 in
-    let nothing : Opt (Batch g.places.J.Denot) = None in
+    let nothing : Opt (Batch g.row.J.Denot) = None in
     let long = ap length c.in-Ok-rooms_for.ensures.places ∙ length-replicate c.len-many.result nothing in
     let ok = c.in-Ok-rooms_for.rooms.places.ok.0 in
     (out.0, omega arith)
@@ -75,7 +75,7 @@ returns-clause-out g c =
     let len = c.len-many.ensures in
     let ok = c.args.batches.ok.0 in
     let none = ap length c.in-Ok-rooms_for.ensures.places in
-    let nothing : Opt (Batch g.places.J.Denot) = None in
+    let nothing : Opt (Batch g.row.J.Denot) = None in
     let many = length-replicate c.len-many.result nothing in
     let wide = c.share_all-threads.ensures.wide in
     let ok2 = rooms.places.ok.0 in
