@@ -32,14 +32,14 @@ illegal_text version k n e why = failed_text n e why ++ codes "\nrule: " ++ rule
 unfoldable pub later_text : ℕ → List ℕ
 later_text n =
     with_number (codes ": here stands event ") n
-    ++ codes ", as its number, the name of a thread, an action and names below the layout's counts; or `end` and that number; or, extended such a line, `value`, a mutex above those before it and a number\n"
+    ++ codes ", as its number, the name of a thread, an action and names below the layout's counts; or `end` and that number; or, behind such a line, `value`, a mutex above those before it and a number\n"
 
 -- what may stand on the line
 abbrev pub expected : ℕ → List ℕ
 expected n =
     if n == 1 then codes ": the first line is `firefly-trace 1` or `firefly-trace 2`\n"
     else (if n == 2
-    then codes ": the second line is `threads T mutexes M conditions C semaphores S`, T from 1 to 64, extended `firefly-trace 2` to 256, the others from 0 to 64\n" else later_text (n - 3))
+    then codes ": the second line is `threads T mutexes M conditions C semaphores S`, T from 1 to 64, behind `firefly-trace 2` to 256, the others from 0 to 64\n" else later_text (n - 3))
 
 unfoldable pub bad_text : ℕ → List ℕ
 bad_text n = with_number (codes "bad line ") n ++ expected n
