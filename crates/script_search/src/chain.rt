@@ -1,11 +1,11 @@
 //! Chains: how far a search goes along events that may be looked at alone.
-ghost use Rattle.std.specs.Prelude.{◌≡◌, ◌<◌, ℕ, true, Some, IfOk, OnSome};
+ghost use Rattle.std.specs.Prelude.{◌≡◌, ◌<◌, Some, IfOk};
 ghost use Rattle.script_text.specs.Text.{IsScript};
 ghost use Rattle.script_text.specs.Runs.{event};
 ghost use Rattle.larch_actions.specs.declared.event.Event.{Event};
 ghost use Rattle.script_plays.specs.declared.choice.Choice.{Choice};
 ghost use Rattle.script_plays.specs.Scenes.{Scene};
-ghost use Rattle.script_plays.specs.Reduced.{GoesAlone, is_alone};
+ghost use Rattle.script_plays.specs.Reduced.{GoesAlone};
 ghost use Rattle.script_search.specs.Boards.{moment_of, scene_of, IsBoard};
 ghost use Rattle.script_search.specs.Chains.{IsAloneOf, IsNext, Chains};
 ghost use Rattle.script_search.specs.Tries.{MayTry};
@@ -82,8 +82,8 @@ fn next_alone(
     Ok(None)
 }
 
-/// Follows the first thread whose next event may be looked at alone, again and again, until no thread has one. Adds the events to those
-/// given, and returns the board after them.
+/// Makes the event of the first thread whose next one may be looked at alone, again and again until no thread has such an event. Adds
+/// the events to those given, and returns the board after them.
 pub fn go_along(
     alloc: Global,
     plan: &Plan,
