@@ -48,23 +48,23 @@ sum_plus f g zero = omega arith
 sum_plus f g (suc n) = omega (arith, sum_plus f g n)
 
 -- an end that is to come, and how far a thread is in a wait: out of its condition, in no wait, in its condition
-abbrev to_end : Life → ℕ
+abbrev pub to_end : Life → ℕ
 to_end Ended = 0
 to_end _ = 1
 
-abbrev phase_of : Pending → (ℕ → Bool) → ℕ
+abbrev pub phase_of : Pending → (ℕ → Bool) → ℕ
 phase_of Nothing inside = 1
 phase_of (Waiting m c) inside = cond (inside c.0) 0 2
 phase_of (AlertWaiting m c) inside = cond (inside c.0) 0 2
 
-abbrev phase : Spec → ℕ → ℕ
+abbrev pub phase : Spec → ℕ → ℕ
 phase s t = phase_of (s.pending t) (λ c. s.members c t)
 
 -- the lines and the end that a thread has before it
-abbrev ahead : List Line → Scene → ℕ → ℕ
+abbrev pub ahead : List Line → Scene → ℕ → ℕ
 ahead xs s t = length (rest_of xs s.played t) + to_end (s.spec.life t)
 
-abbrev rank : Layout → List Line → Scene → ℕ
+abbrev pub rank : Layout → List Line → Scene → ℕ
 rank l xs s = (2 * l.threads + 1) * sum_below (ahead xs s) l.threads + sum_below (phase s.spec) l.threads
 
 phase_few : (p : Pending) (inside : ℕ → Bool) → phase_of p inside ≤ 2
@@ -343,7 +343,7 @@ module _ (l : Layout) (xs : List Line) (s : Scene) (t : ℕ) (a : Action) (low :
   unfolding after
   falls_to turn u gives spec played = subst (λ (z : Scene). rank l xs z < rank l xs s) (λ i. record { spec = sym spec i; played = sym played i }) (falls_by turn gives)
 
-goes_falls : (l : Layout) (xs : List Line) (s : Scene) (e : Event) (u : Scene) → Goes l xs s e u → rank l xs u < rank l xs s
+pub goes_falls : (l : Layout) (xs : List Line) (s : Scene) (e : Event) (u : Scene) → Goes l xs s e u → rank l xs u < rank l xs s
 goes_falls l xs s e u g = falls_to l xs s e.thread.0 e.action g.thread g.acts.0 g.turn u g.gives g.acts.1 g.played
 
 plays_fall : (l : Layout) (xs : List Line) (s : Scene) (h : List Event) (u : Scene) → Plays l xs s h u → length h + rank l xs u ≤ rank l xs s

@@ -85,7 +85,7 @@ module _ (l : Layout) (xs : List Line) (script : IsScript l xs) where
         )
 
   -- its thread has no other event
-  same_event : (s : Scene) (e f : Event) (u v : Scene) → GoesAlone l xs s e u → Goes l xs s f v → e.thread.0 ≡ f.thread.0 → f ≡ e
+  pub same_event : (s : Scene) (e f : Event) (u v : Scene) → GoesAlone l xs s e u → Goes l xs s f v → e.thread.0 ≡ f.thread.0 → f ≡ e
   same_event s e f u v alone goes same =
       let gives = subst (λ t. Gives l.version (rest_of xs s.played t) (record { action = f.action; turn = goes.turn })) (sym same) goes.gives in
       let is = gives_alone l.version (rest_of xs s.played e.thread.0) e.action f.action alone.1.turn goes.turn alone.0 alone.1.gives gives in

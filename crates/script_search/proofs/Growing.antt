@@ -22,6 +22,7 @@ use Rattle.script_search.specs.declared.found.Found.{Found}
 use Rattle.script_search.specs.Boards.{Moment, moment_of, scene_of, IsBoard, pending_of, life_of, life_beyond, is_inside, holder_of}
 use Rattle.script_search.specs.Keys.{key_of, moment_in}
 use Rattle.script_search.specs.Founds.{IsThere, keys_of, moments_of}
+use Rattle.script_search.specs.Chains.{IsChain}
 use Rattle.script_search.specs.Seen.{IsChild, IsSeen}
 use Rattle.script_search.proofs.Rows.{nobody}
 use Rattle.script_search.proofs.Planning.{before_end}
@@ -167,8 +168,8 @@ read_at f k key bytes (Ok b) at same is =
     ∙ ap Some (sym (is ∙ ap (moment_in f.layout) same))
 read_at f k key bytes (Err e) at same is = is
 
-module _ (l : Layout) (xs : List Line) (ms : List Moment) (parents : List ℕ) (seen : IsSeen l xs ms parents) (p : ℕ) (a m : Moment) (e : Event)
-    (there : slice_get ms p ≡ Some a) (goes : Goes l xs (scene_of a) e (scene_of m)) (board : IsBoard l m) (new : IsThere (map key_of ms) (key_of m) → ⊥) where
+module _ (l : Layout) (xs : List Line) (ms : List Moment) (parents : List ℕ) (seen : IsSeen l xs ms parents) (p : ℕ) (a m : Moment) (e : Event) (u : Scene) (rest : List Event)
+    (there : slice_get ms p ≡ Some a) (goes : Goes l xs (scene_of a) e u) (chain : IsChain l xs u rest (scene_of m)) (board : IsBoard l m) (new : IsThere (map key_of ms) (key_of m) → ⊥) where
   old_child : (k : ℕ) (n : Moment) → IsChild l xs ms parents k n → IsChild l xs (ms ++ m ∷ []) (parents ++ p ∷ []) k n
   old_child k n c = record {
     place = c.place;
@@ -177,7 +178,10 @@ module _ (l : Layout) (xs : List Line) (ms : List Moment) (parents : List ℕ) (
     named = there_before parents p c.place k c.named;
     before = c.before;
     there = there_before ms m c.parent c.place c.there;
+    between = c.between;
+    rest = c.rest;
     goes = c.goes;
+    chain = c.chain;
   }
 
   new_child : (k : ℕ) → k ≡ length ms → IsChild l xs (ms ++ m ∷ []) (parents ++ p ∷ []) k m
@@ -188,7 +192,10 @@ module _ (l : Layout) (xs : List Line) (ms : List Moment) (parents : List ℕ) (
     named = there_last parents p k (seen.size ∙ sym is);
     before = omega (arith, is, before_end ms p a there);
     there = there_before ms m a p there;
+    between = u;
+    rest = rest;
     goes = goes;
+    chain = chain;
   }
 
   -- a scene that is there is that of no new board

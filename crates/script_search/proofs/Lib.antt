@@ -8,10 +8,10 @@ pub mod Moved
 pub mod Growing
 pub mod Trying
 pub mod Choosing
+pub mod Chaining
 pub mod Expanding
 pub mod Tells
 pub mod Starting
-pub mod Surveying
 pub mod Searching
 pub mod Stepping
 pub mod Tracing

@@ -3,12 +3,12 @@ use Rattle.std.proofs.Common.{◌≡◌, ◌⊎◌, ◌↔◌, IsTrue, MatchBool
 use Rattle.std.specs.List.{slice_get}
 use mathlib.Core.Logic.{dite}
 use native.Mathlib.Decide.{ℕ_discrete}
+use Rattle.larch_actions.specs.declared.event.Event.{Event}
 use Rattle.larch_actions.specs.declared.event.Layout.{Layout}
 use Rattle.script_text.specs.declared.line.Line.{Line}
 use Rattle.script_text.specs.Text.{IsScript}
-use Rattle.script_plays.specs.Scenes.{first_scene}
-use Rattle.script_plays.specs.Plays.{GoesOn, AllFinished, Ends, IsPlayTo}
-use Rattle.script_plays.specs.Reduced.{IsLookedAround}
+use Rattle.script_plays.specs.Scenes.{Scene, first_scene}
+use Rattle.script_plays.specs.Plays.{Goes, GoesOn, AllFinished, Ends, IsPlayTo}
 use Rattle.script_plays.proofs.Reduced.{is_stuck}
 use Rattle.script_search.specs.declared.explorer.Stuck.{Stuck}
 use Rattle.script_search.specs.declared.found.Found.{Found}
@@ -16,15 +16,13 @@ use Rattle.script_search.specs.Boards.{Moment, moment_of, scene_of, played_of, I
 use Rattle.script_search.specs.Explored.{AreNumbers, IsStuckAt}
 use Rattle.script_search.specs.Firsts.{IsFirst}
 use Rattle.script_search.specs.Founds.{moments_of, IsAlone}
-use Rattle.script_search.specs.Seen.{HasScene, IsSeen, IsClosed, IsAlive}
-use Rattle.script_search.proofs.Surveying.{around_more}
+use Rattle.script_search.specs.Seen.{HasEnd, IsSeen, IsClosed, IsAlive}
 use Rattle.script_search.specs.Searches.{Searched, IsDead}
-use Rattle.script_search.specs.Tries.{IsAt, Exceeds}
-use Rattle.script_search.specs.Surveys.{Surveys}
+use Rattle.script_search.specs.Tries.{IsAt, Tries, Exceeds}
 use Rattle.script_search.proofs.Tells.{never}
 use Rattle.script_search.proofs.Planning.{before_end}
 use Rattle.script_search.proofs.Ending.{all_end}
-use Rattle.script_search.proofs.Trying.{some_same}
+use Rattle.script_search.proofs.Trying.{some_same, end_more}
 
 -- the one element of a list
 only_there : {X : Type 0} (x y : X) (k : ℕ) → slice_get (x ∷ []) k ≡ Some y → (k ≡ 0) × (x ≡ y)
@@ -72,24 +70,24 @@ module _ (l : Layout) (xs : List Line) where
     distinct = λ i k s u ati atk low. absurd (omega (arith, low, (only_there (first_scene l.version) u k atk).0));
   }
 
-  module _ (limit : ℕ) (f g : Found) (n : ℕ) (m : Moment) (r : Bool) (old : Searched l xs limit f n) (surveys : Surveys l xs f g m r) (at : IsAt f n m) where
+  module _ (limit : ℕ) (f g : Found) (n : ℕ) (m : Moment) (r : Bool) (old : Searched l xs limit f n) (tries : Tries l xs f g m (λ e. Unit {0}) r) (at : IsAt f n m) where
     -- a board that is looked at is one of those before, or this one
     looked : (k : ℕ) (o : Moment) → k < n + 1 → IsAt g k o → ((k < n) × IsAt f k o) ⊎ (m ≡ o)
     looked k o low ato =
         let was = there_at (moments_of f) k (omega (arith, low, before_end (moments_of f) n m at)) in
-        let is = some_same was.0 o (slice_get (moments_of g) k) (surveys.grows.kept k was.0 was.1) ato in
+        let is = some_same was.0 o (slice_get (moments_of g) k) (tries.grows.kept k was.0 was.1) ato in
         dite (ℕ_discrete k n)
         (λ e. inr (some_same m o (slice_get (moments_of f) n) at (ap (slice_get (moments_of f)) (sym e) ∙ (was.1 ∙ ap Some is))))
         (λ ne. inl (omega (arith, low, ne), was.1 ∙ ap Some is))
 
     pub searched_more : AllFinished l xs (scene_of m) ⊎ GoesOn l xs (scene_of m) → Searched l xs limit g (n + 1)
     searched_more alive = record {
-      sound = surveys.grows.sound;
-      limit_is = surveys.grows.limit ∙ old.limit_is;
-      low = omega (arith, before_end (moments_of g) n m (surveys.grows.kept n m at));
+      sound = tries.grows.sound;
+      limit_is = tries.grows.limit ∙ old.limit_is;
+      low = omega (arith, before_end (moments_of g) n m (tries.grows.kept n m at));
       closed = λ k o low ato. elim (looked k o low ato) [
-        | inl before ↦ around_more l xs f g o surveys.grows (old.closed k o before.0 before.1)
-        | inr here ↦ subst (λ (z : Moment). IsLookedAround l xs (HasScene (moments_of g)) (scene_of z)) here surveys.around
+        | inl before ↦ λ e s goes. end_more l xs f g s tries.grows (old.closed k o before.0 before.1 e s goes)
+        | inr here ↦ subst (λ (z : Moment). (e : Event) (s : Scene) → Goes l xs (scene_of z) e s → HasEnd l xs (moments_of g) s) here (λ e s goes. tries.covers e s tt goes)
       ];
       alive = λ k o low ato. elim (looked k o low ato) [
         | inl before ↦ old.alive k o before.0 before.1
@@ -98,20 +96,20 @@ module _ (l : Layout) (xs : List Line) where
     }
 
   -- some event leads on
-  pub searched_on : (limit : ℕ) (f g : Found) (n : ℕ) (m : Moment) (r : Bool) → Searched l xs limit f n → Surveys l xs f g m r → IsAt f n m → r ≡ true → Searched l xs limit g (n + 1)
-  searched_on limit f g n m r old surveys at on =
-      searched_more limit f g n m r old surveys at (inr (subst (λ (b : Bool). MatchBool b (GoesOn l xs (scene_of m)) (GoesOn l xs (scene_of m) → ⊥)) on surveys.goes))
+  pub searched_on : (limit : ℕ) (f g : Found) (n : ℕ) (m : Moment) (r : Bool) → Searched l xs limit f n → Tries l xs f g m (λ e. Unit {0}) r → IsAt f n m → r ≡ true → Searched l xs limit g (n + 1)
+  searched_on limit f g n m r old tries at on =
+      searched_more limit f g n m r old tries at (inr (subst (λ (b : Bool). MatchBool b (GoesOn l xs (scene_of m)) ((e : Event) (s : Scene) → Unit {0} → Goes l xs (scene_of m) e s → ⊥)) on tries.goes))
 
   -- none does: then all threads are finished, or the scene is dead
-  pub searched_over : (limit : ℕ) (f g : Found) (n : ℕ) (m : Moment) (r : Bool) → Searched l xs limit f n → Surveys l xs f g m r → IsAt f n m → r ≡ false
+  pub searched_over : (limit : ℕ) (f g : Found) (n : ℕ) (m : Moment) (r : Bool) → Searched l xs limit f n → Tries l xs f g m (λ e. Unit {0}) r → IsAt f n m → r ≡ false
       → (b : Bool) → (IsTrue b ↔ AllFinished l xs (scene_of m)) → MatchBool b (Searched l xs limit g (n + 1)) (IsDead l xs g n)
-  searched_over limit f g n m r old surveys at off true whole = searched_more limit f g n m r old surveys at (inl (whole.0 refl))
-  searched_over limit f g n m r old surveys at off false whole = record {
-    sound = surveys.grows.sound;
+  searched_over limit f g n m r old tries at off true whole = searched_more limit f g n m r old tries at (inl (whole.0 refl))
+  searched_over limit f g n m r old tries at off false whole = record {
+    sound = tries.grows.sound;
     moment = m;
-    at = surveys.grows.kept n m at;
+    at = tries.grows.kept n m at;
     unfinished = λ finished. never (whole.1 finished);
-    no_more = subst (λ (b : Bool). MatchBool b (GoesOn l xs (scene_of m)) (GoesOn l xs (scene_of m) → ⊥)) off surveys.goes;
+    no_more = λ more. subst (λ (b : Bool). MatchBool b (GoesOn l xs (scene_of m)) ((e : Event) (s : Scene) → Unit {0} → Goes l xs (scene_of m) e s → ⊥)) off tries.goes more.0 more.1 tt more.2;
   }
 
   -- all are looked at, and none is dead

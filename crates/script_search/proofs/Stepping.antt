@@ -1,5 +1,5 @@
--- The event that leads from one board to another is among those that are tried again.
-use Rattle.std.proofs.Common.{◌≡◌, ◌↔◌, IsTrue, inl, inr, ℕ, ◌+◌, ◌<◌, ◌≤◌, Bool, true, false, cond, eq-eqb, List, [], ◌∷◌, length, get_or, refl, sym, ap, subst, ◌∙◌, arith, Some, None, Option}
+-- The event with whose chain one board leads to another is among those that are tried again.
+use Rattle.std.proofs.Common.{Vec, Global, ◌++◌, ◌≡◌, ◌↔◌, IsTrue, inl, inr, ℕ, ◌+◌, ◌<◌, ◌≤◌, Bool, true, false, cond, eq-eqb, List, [], ◌∷◌, length, get_or, refl, sym, ap, subst, ◌∙◌, arith, Some, None, Option}
 use Rattle.std.specs.List.{slice_get}
 use Rattle.std.proofs.lemmas.Option.{slice_get-get_or}
 use mathlib.Core.Logic.{dite}
@@ -21,19 +21,23 @@ use Rattle.script_text.specs.Text.{IsScript}
 use Rattle.script_text.specs.Runs.{event, lines_of}
 use Rattle.script_plays.specs.declared.choice.Choice.{Choice}
 use Rattle.script_plays.specs.Choices.{choices, three, next, stays, MayMake, IsOneOf}
+use Rattle.script_plays.specs.Scenes.{Scene}
+use Rattle.script_plays.specs.Plays.{Goes}
 use Rattle.script_plays.proofs.Scened.{goes_one}
 use Rattle.script_search.specs.declared.board.Board.{Board}
 use Rattle.script_search.specs.Boards.{Moment, moment_of, spec_of, scene_of, played_of, IsBoard}
+use Rattle.script_search.specs.Chains.{IsChain, Chains}
 use Rattle.script_search.specs.Keys.{key_of}
 use Rattle.script_search.specs.Moves.{Moves}
 use Rattle.script_search.specs.Tries.{MayTry}
-use Rattle.script_search.specs.Ways.{Leads, IsStep, IsWay, AreWays, last_choices}
+use Rattle.script_search.specs.Ways.{Leads, LeadsBy, IsStep, IsWay, AreWays, last_choices}
 use Rattle.script_search.proofs.Unpacked.{same_key}
 use Rattle.script_search.proofs.Growing.{same_scene}
-use Rattle.script_search.proofs.Tells.{never, below}
+use Rattle.script_search.proofs.Tells.{fails, below}
 use Rattle.script_search.proofs.Planning.{before_end}
 use Rattle.script_search.proofs.Rows.{member_low}
-use Rattle.script_search.proofs.Trying.{goes_alike, some_same}
+use Rattle.script_search.proofs.Trying.{goes_alike, some_same, moved_goes}
+use Rattle.script_search.proofs.Chaining.{chain_plays, chain_members, chain_one}
 use Rattle.script_search.proofs.Choosing.{one_made, is_three, three_is, choices_few, event_is, made, may_choices, may_signal, may_end, over_none, only_end}
 
 -- below the thread n the set has those that are in the condition, and from it on none
@@ -52,19 +56,30 @@ gathers_all l m c n set board all g u = elim (below u n) [
   | inr past ↦ g.beyond u past ∙ sym (not_beyond m c u ((spec_of m).members c u) (omega (arith, past, all, board.threads)) refl)
 ]
 
--- an event leads from one moment to the other if its board has the other's numbers, and only then
-pub leads_none : (l : Layout) (xs : List Line) (m n : Moment) (e : Event) (o : Option Board) → Moves l xs m e o → o ≡ None → IsTrue false ↔ Leads l xs m n e
-leads_none l xs m n e o moves is =
+-- an event that may not come leads nowhere
+pub leads_none : (l : Layout) (xs : List Line) (m n : Moment) (e : Event) (o : Option Board) → Moves l xs m e o → o ≡ None → (f : Event) → f ≡ e → Leads l xs m n f → ⊥
+leads_none l xs m n e o moves is f same leads =
     let none = subst (λ (z : Option Board). Moves l xs m e z) is moves in
-    ((λ h. absurd (never h)), (λ goes. absurd (none (scene_of n) goes)))
+    none leads.0 (subst (λ (z : Event). Goes l xs (scene_of m) z leads.0) same leads.2)
 
-pub leads_some : (l : Layout) (xs : List Line) (m n : Moment) (e : Event) (o : Option Board) (b : Board) (r : Bool) → IsBoard l n → Moves l xs m e o → o ≡ Some b
-    → (IsTrue r ↔ (key_of (moment_of b) ≡ key_of n)) → IsTrue r ↔ Leads l xs m n e
-leads_some l xs m n e o b r board moves is same =
-    let both = subst (λ (z : Option Board). Moves l xs m e z) is moves in (
-      (λ yes. subst (λ (z : Moment). Leads l xs m z e) (same_key l (moment_of b) n both.1 board (same.0 yes)) both.0),
-      (λ goes. same.1 (ap key_of (same_scene l (moment_of b) n both.1 board (goes_one l xs (scene_of m) e (scene_of (moment_of b)) (scene_of n) both.0 goes)))),
-    )
+-- one that may come leads to the other moment if the board at the end of its chain has the other's numbers, and only then
+module _ (l : Layout) (xs : List Line) (m n : Moment) (e : Event) (o : Option Board) (b : Board) (end : Moment) (first events : List Event) (same : Bool)
+    (board : IsBoard l n) (moves : Moves l xs m e o) (is : o ≡ Some b) (chains : Chains l xs (moment_of b) first events end) (tells : IsTrue same ↔ (key_of end ≡ key_of n)) where
+  pub leads_there : first ≡ e ∷ [] → same ≡ true → LeadsBy l xs m n events
+  leads_there one on =
+      let there = same_key l end n chains.3 board (tells.0 on) in
+      let all = chains.1 ∙ ap (λ (z : List Event). z ++ chains.0) one in
+      subst (λ (z : List Event). LeadsBy l xs m n z) (sym all)
+      (subst (λ (z : Moment). LeadsBy l xs m z (e ∷ chains.0)) there
+      (scene_of (moment_of b), (moved_goes l xs m e o b moves is).0, chain_plays l xs (scene_of (moment_of b)) chains.0 (scene_of end) chains.2))
+
+  pub leads_elsewhere : IsScript l xs → same ≡ false → (f : Event) → f ≡ e → Leads l xs m n f → ⊥
+  leads_elsewhere script off f is_e leads =
+      let goes = subst (λ (z : Event). Goes l xs (scene_of m) z leads.0) is_e leads.2 in
+      let between = goes_one l xs (scene_of m) e leads.0 (scene_of (moment_of b)) goes (moved_goes l xs m e o b moves is).0 in
+      let chain = subst (λ (z : Scene). IsChain l xs z leads.1 (scene_of n)) between leads.3 in
+      let there = chain_one l xs script (scene_of (moment_of b)) chains.0 leads.1 (scene_of end) (scene_of n) chains.2 chain in
+      fails same (key_of end ≡ key_of n) tells off (ap key_of (same_scene l end n chains.3 board there))
 
 three_long : (cs : List Choice) → length (three cs) ≡ 3
 three_long [] = refl
@@ -88,12 +103,12 @@ module _ (l : Layout) (xs : List Line) (m n : Moment) (t : ℕ) where
     ways_last low One is = record {
       size = refl;
       may = λ k c at. absurd (three_is [] k c at);
-      all = λ e own goes. absurd (over_none l xs m t past is e (scene_of n) own goes);
+      all = λ e own goes. absurd (over_none l xs m t past is e goes.0 own goes.2);
     }
     ways_last low Two is = record {
       size = refl;
       may = λ k c at. subst (λ (z : Choice). MayTry l xs m t z) (sym (only_one (stays action.End) c (three_is (stays action.End ∷ []) k c at))) (may_end l xs m t past low is);
-      all = λ e own goes. way_of (stays action.End ∷ []) (stays action.End) (omega arith) (inl refl) (leads_at e action.End (only_end l xs m t past is e (scene_of n) own goes) goes);
+      all = λ e own goes. way_of (stays action.End ∷ []) (stays action.End) (omega arith) (inl refl) (leads_at e action.End (only_end l xs m t past is e goes.0 own goes.2) goes);
     }
 
   module _ (x : Line) (script : IsScript l xs) (there : slice_get (lines_of t xs) (played_of m t) ≡ Some x) where
@@ -102,8 +117,8 @@ module _ (l : Layout) (xs : List Line) (m n : Moment) (t : ℕ) where
       size = three_long (choices x.operation);
       may = may_choices l xs m t x script there;
       all = λ e own goes.
-          let choice : Choice = record { action = e.action; turn = goes.turn } in
-          way_of (choices x.operation) choice (choices_few x.operation) (one_made x.operation choice (made l xs m t x there e (scene_of n) own goes) other)
+          let choice : Choice = record { action = e.action; turn = goes.2.turn } in
+          way_of (choices x.operation) choice (choices_few x.operation) (one_made x.operation choice (made l xs m t x there e goes.0 own goes.2) other)
           (leads_at e e.action (event_is e t e.action own refl) goes);
     }
 
@@ -113,13 +128,13 @@ module _ (l : Layout) (xs : List Line) (m n : Moment) (t : ℕ) where
       size = refl;
       may = λ k d at. subst (λ (z : Choice). MayTry l xs m t z) (sym (only_one (next (action.Signal c left)) d (three_is (next (action.Signal c left) ∷ []) k d at))) may_left;
       all = λ e own goes.
-          let choice : Choice = record { action = e.action; turn = goes.turn } in
-          let make = subst (λ (o : Operation). MayMake o choice) is (made l xs m t x there e (scene_of n) own goes) in
+          let choice : Choice = record { action = e.action; turn = goes.2.turn } in
+          let make = subst (λ (o : Operation). MayMake o choice) is (made l xs m t x there e goes.0 own goes.2) in
           let set = make.0 in
           let here = leads_at e (action.Signal c set) (event_is e t (action.Signal c set) own (ap (λ (z : Choice). z.action) make.1)) goes in
-          let same = set_is set here.acts.1 in
+          let same = set_is set here.0 here.1 here.2.acts.1 here.3 in
           let may_set = may_signal l xs m t x script there c is set (λ u has. low u (same u ∙ has)) in
-          way_of (next (action.Signal c left) ∷ []) (next (action.Signal c left)) (omega arith) (inl refl) (goes_alike l xs m t c set left (λ u. sym (same u)) may_set may_left (scene_of n) here);
+          way_of (next (action.Signal c left) ∷ []) (next (action.Signal c left)) (omega arith) (inl refl) (here.0, here.1, goes_alike l xs m t c set left (λ u. sym (same u)) may_set may_left here.0 here.2, here.3);
     }
       where
         low : (u : ℕ) → in_set left u ≡ true → u < l.threads
@@ -128,13 +143,17 @@ module _ (l : Layout) (xs : List Line) (m n : Moment) (t : ℕ) where
         may_left : MayTry l xs m t (next (action.Signal c left))
         may_left = may_signal l xs m t x script there c is left low
 
-        set_is : (set : ThreadSet) → spec_of n ≡ acted t (spec_of m) (action.Signal c set) → (u : ℕ) → in_set left u ≡ in_set set u
-        set_is set now u = left_is u ∙ (ap (λ (s : Spec). s.members c.0 u) now ∙ ap (λ (b : Bool). cond b (in_set set) ((spec_of m).members c.0) u) (eq-eqb c.0 c.0 refl))
+        set_is : (set : ThreadSet) (v : Scene) (h : List Event) → v.spec ≡ acted t (spec_of m) (action.Signal c set) → IsChain l xs v h (scene_of n) → (u : ℕ) → in_set left u ≡ in_set set u
+        set_is set v h now chain u =
+            left_is u
+            ∙ (ap (λ (f : ℕ → ℕ → Bool). f c.0 u) (chain_members l xs v h (scene_of n) chain)
+            ∙ (ap (λ (s : Spec). s.members c.0 u) now
+            ∙ ap (λ (b : Bool). cond b (in_set set) ((spec_of m).members c.0) u) (eq-eqb c.0 c.0 refl)))
 
   -- an event that isn't there was not found
-  pub step_none : (o : Option Event) → ((e : Event) → o ≡ Some e → ⊥) → IsStep l xs m n t o → IsStep l xs m n t None
-  step_none None other step = step
-  step_none (Some e) other step = absurd (other e refl)
+  pub step_none : (here : Event → Type 0) (o : Option (Vec Event Global)) → ((v : Vec Event Global) → o ≡ Some v → ⊥) → IsStep l xs m n here o → IsStep l xs m n here None
+  step_none here None other step = step
+  step_none here (Some v) other step = absurd (other v refl)
 
   -- none of the first choices leads there
   abbrev pub NoneBelow : List (Option Choice) → ℕ → Type 0
@@ -152,7 +171,7 @@ module _ (l : Layout) (xs : List Line) (m n : Moment) (t : ℕ) where
       (λ e. here c (ap (slice_get cs) (sym e) ∙ way.0, way.1))
       (λ ne. none j c (omega (arith, ne)) way)
 
-  pub no_step : (cs : List (Option Choice)) (k : ℕ) → AreWays l xs m n t cs → 3 ≤ k → NoneBelow cs k → IsStep l xs m n t None
+  pub no_step : (cs : List (Option Choice)) (k : ℕ) → AreWays l xs m n t cs → 3 ≤ k → NoneBelow cs k → IsStep l xs m n (λ e. e.thread.0 ≡ t) None
   no_step cs k ways all none e own goes =
       let way = ways.all e own goes in
       none way.0 way.1 (omega (arith, before_end cs way.0 (Some way.1) way.2.0, all, ways.size)) way.2

@@ -1,6 +1,6 @@
 -- The way back from a board to the first one, and the numbers of the mutexes.
 use Rattle.std.proofs.Common.{◌≡◌, inl, inr, ℕ, ◌+◌, ◌<◌, List, [], ◌∷◌, ◌++◌, length, length-append, reverse, sym, ap, subst, ◌∙◌, arith, Some}
-use Rattle.std.proofs.lemmas.List.{reverse-append}
+use Rattle.std.proofs.lemmas.List.{reverse-append, reverse-reverse}
 use Rattle.std.specs.List.{slice_get}
 use Rattle.larch_actions.specs.declared.event.Event.{Event}
 use Rattle.larch_actions.specs.declared.event.Layout.{Layout}
@@ -13,7 +13,8 @@ use Rattle.script_search.specs.Explored.{AreNumbers}
 use Rattle.script_search.specs.Founds.{moments_of}
 use Rattle.script_search.specs.Seen.{IsChild}
 use Rattle.script_search.specs.Tries.{IsSound, IsAt}
-use Rattle.script_search.specs.Ways.{Leads}
+use Rattle.script_search.specs.Ways.{Leads, LeadsBy}
+use Rattle.script_search.proofs.Chaining.{plays_append}
 use Rattle.script_search.proofs.Growing.{there_cases}
 use Rattle.script_search.proofs.Searching.{there_at}
 use Rattle.script_search.proofs.Trying.{some_same}
@@ -26,12 +27,12 @@ module _ (l : Layout) (xs : List Line) (f : Found) (sound : IsSound l xs f) wher
   pub back_none : (place : ℕ) → LeadBack l xs f place place []
   back_none place m n at there = ap scene_of (some_same m n (slice_get (moments_of f) place) at there)
 
-  pub back_more : (parent at place : ℕ) (events : List Event) (a b : Moment) (e : Event) → IsAt f parent a → IsAt f at b → Leads l xs a b e → LeadBack l xs f at place events
-      → LeadBack l xs f parent place (events ++ e ∷ [])
-  back_more parent at place events a b e ata atb leads back m n atm there =
+  pub back_more : (parent at place : ℕ) (events : List Event) (a b : Moment) (last : List Event) → IsAt f parent a → IsAt f at b → LeadsBy l xs a b last → LeadBack l xs f at place events
+      → LeadBack l xs f parent place (events ++ reverse last)
+  back_more parent at place events a b last ata atb leads back m n atm there =
       let is = some_same a m (slice_get (moments_of f) parent) ata atm in
-      subst (λ (h : List Event). Plays l xs (scene_of m) h (scene_of n)) (sym (reverse-append events (e ∷ [])))
-      (scene_of b, subst (λ (z : Moment). Leads l xs z b e) is leads, back b n atb there)
+      subst (λ (h : List Event). Plays l xs (scene_of m) h (scene_of n)) (sym (reverse-append events (reverse last) ∙ ap (λ (z : List Event). z ++ reverse events) (reverse-reverse last)))
+      (plays_append l xs (scene_of m) last (scene_of b) (reverse events) (scene_of n) (subst (λ (z : Moment). LeadsBy l xs z b last) is leads) (back b n atb there))
 
   -- the place from which a board was found
   child : (k : ℕ) → 0 < k → (low : k < length (moments_of f)) → IsChild l xs (moments_of f) f.parents.items k (there_at (moments_of f) k low).0
@@ -51,7 +52,7 @@ module _ (l : Layout) (xs : List Line) (f : Found) (sound : IsSound l xs f) wher
       let place = some_same c.place parent (slice_get f.parents.items k) c.named named in
       let from = some_same c.parent m (slice_get (moments_of f) parent) (ap (slice_get (moments_of f)) (sym place) ∙ c.there) atm in
       let to = some_same here.0 n (slice_get (moments_of f) k) here.1 atn in
-      (c.event, subst (λ (z : Moment). Leads l xs m z c.event) to (subst (λ (z : Moment). Leads l xs z here.0 c.event) from c.goes))
+      (c.event, subst (λ (z : Moment). Leads l xs m z c.event) to (subst (λ (z : Moment). Leads l xs z here.0 c.event) from (c.between, c.rest, c.goes, c.chain)))
 
   -- back at the first board
   pub back_all : (place : ℕ) (events : List Event) (n : Moment) → 0 < length (moments_of f) → LeadBack l xs f 0 place events → IsAt f place n → IsPlayTo l xs (reverse events) (scene_of n)

@@ -22,7 +22,8 @@ use Rattle.script_search.specs.declared.found.Found.{Found}
 use Rattle.script_search.specs.Boards.{Moment, moment_of, spec_of, played_of, scene_of, IsBoard}
 use Rattle.script_search.specs.Keys.{key_of}
 use Rattle.script_search.specs.Founds.{moments_of, IsKeyed, Adds, IsFull}
-use Rattle.script_search.specs.Seen.{HasScene, IsSeen}
+use Rattle.script_search.specs.Seen.{HasScene, HasEnd, IsSeen}
+use Rattle.script_search.specs.Chains.{IsChain, Chains}
 use Rattle.script_plays.specs.declared.choice.Choice.{Choice}
 use Rattle.script_search.specs.declared.board.Board.{Board}
 use Rattle.script_search.specs.Moves.{Moves}
@@ -39,6 +40,9 @@ grows_none l xs a sound = record { sound = sound; kept = λ k m at. at; limit = 
 
 pub has_more : (l : Layout) (xs : List Line) (a b : Found) (s : Scene) → Grows l xs a b → HasScene (moments_of a) s → HasScene (moments_of b) s
 has_more l xs a b s grows has = (has.0, has.1, grows.kept has.0 has.1 has.2, has.3)
+
+pub end_more : (l : Layout) (xs : List Line) (a b : Found) (s : Scene) → Grows l xs a b → HasEnd l xs (moments_of a) s → HasEnd l xs (moments_of b) s
+end_more l xs a b s grows end = (end.0, end.1, end.2, has_more l xs a b end.1 grows end.3)
 
 module _ (l : Layout) (xs : List Line) (m : Moment) where
   -- nothing to try
@@ -60,7 +64,7 @@ module _ (l : Layout) (xs : List Line) (m : Moment) where
   pub tries_both : (a b c : Found) (P Q : Event → Type 0) (r q : Bool) → Tries l xs a b m P r → Tries l xs b c m Q q → Tries l xs a c m (λ e. P e ⊎ Q e) (r || q)
   tries_both a b c P Q r q t u = record {
     grows = grows_both l xs a b c t.grows u.grows;
-    covers = λ e s h g. elim h [ inl p ↦ has_more l xs b c s u.grows (t.covers e s p g) | inr w ↦ u.covers e s w g ];
+    covers = λ e s h g. elim h [ inl p ↦ end_more l xs b c s u.grows (t.covers e s p g) | inr w ↦ u.covers e s w g ];
     goes = either r q t.goes u.goes;
   }
     where
@@ -71,9 +75,9 @@ module _ (l : Layout) (xs : List Line) (m : Moment) where
       either false true x y = y
       either false false x y = λ e s h g. elim h [ inl p ↦ x e s p g | inr w ↦ y e s w g ]
 
--- the board that an event led to was added
-module _ (l : Layout) (xs : List Line) (old new : Found) (p : ℕ) (a m : Moment) (e : Event)
-    (sound : IsSound l xs old) (at : IsAt old p a) (goes : Goes l xs (scene_of a) e (scene_of m)) (board : IsBoard l m) where
+-- the board that an event and the chain after it led to was added
+module _ (l : Layout) (xs : List Line) (old new : Found) (p : ℕ) (a m : Moment) (e : Event) (u : Scene) (rest : List Event)
+    (sound : IsSound l xs old) (at : IsAt old p a) (goes : Goes l xs (scene_of a) e u) (chain : IsChain l xs u rest (scene_of m)) (board : IsBoard l m) where
   added_grows : IsKeyed new → Adds old new m p → Grows l xs old new
   added_grows keyed adds = elim adds [
     | inl same ↦ subst (λ (z : Found). Grows l xs old z) (sym same.1) (grows_none l xs old sound)
@@ -85,7 +89,7 @@ module _ (l : Layout) (xs : List Line) (old new : Found) (p : ℕ) (a m : Moment
             layout = push.layout ∙ sound.layout;
             seen = subst (λ (ms : List Moment). IsSeen l xs ms new.parents.items) (sym push.moments)
                 (subst (λ (ps : List ℕ). IsSeen l xs (moments_of old ++ m ∷ []) ps) (sym push.parents)
-                (seen_pushed l xs (moments_of old) old.parents.items sound.seen p a m e at goes board pushed.0));
+                (seen_pushed l xs (moments_of old) old.parents.items sound.seen p a m e u rest at goes chain board pushed.0));
           };
           kept = λ k n there. subst (λ (ms : List Moment). slice_get ms k ≡ Some n) (sym push.moments) (there_before (moments_of old) m n k there);
           limit = push.limit;
@@ -107,15 +111,15 @@ module _ (l : Layout) (xs : List Line) (old new : Found) (p : ℕ) (a m : Moment
     grows = added_grows keyed adds;
     covers = λ f s same g.
         let here = subst (λ (z : Event). Goes l xs (scene_of a) z s) same g in
-        let is = goes_one l xs (scene_of a) e (scene_of m) s goes here in
-        subst (λ (z : Scene). HasScene (moments_of new) z) is (added_has adds);
-    goes = (e, scene_of m, goes);
+        let is = goes_one l xs (scene_of a) e u s goes here in
+        subst (λ (z : Scene). HasEnd l xs (moments_of new) z) is (rest, scene_of m, chain, added_has adds);
+    goes = (e, u, goes);
   }
 
   -- and could not be added for the limit
   pub exceeds : IsFull old m → Exceeds l xs old.limit
   exceeds full =
-      let seen = seen_pushed l xs (moments_of old) old.parents.items sound.seen p a m e at goes board full.absent in
+      let seen = seen_pushed l xs (moments_of old) old.parents.items sound.seen p a m e u rest at goes chain board full.absent in
       let ms = moments_of old ++ m ∷ [] in
       record {
         scenes = map scene_of ms;
@@ -135,24 +139,23 @@ tries_refused l xs m a e o sound moves is =
     let none = subst (λ (z : Option Board). Moves l xs m e z) is moves in
     tries_less l xs m a a (λ f. ⊥) (λ f. f ≡ e) false (λ f s same g. none s (subst (λ (z : Event). Goes l xs (scene_of m) z s) same g)) (tries_none l xs m a sound)
 
-moved_goes : (l : Layout) (xs : List Line) (m : Moment) (e : Event) (o : Option Board) (b : Board) → Moves l xs m e o → o ≡ Some b → Goes l xs (scene_of m) e (scene_of (moment_of b)) × IsBoard l (moment_of b)
+pub moved_goes : (l : Layout) (xs : List Line) (m : Moment) (e : Event) (o : Option Board) (b : Board) → Moves l xs m e o → o ≡ Some b → Goes l xs (scene_of m) e (scene_of (moment_of b)) × IsBoard l (moment_of b)
 moved_goes l xs m e o b moves is = subst (λ (z : Option Board). Moves l xs m e z) is moves
 
--- the board that an event led to is one of the layout
-pub moved_board : (l : Layout) (xs : List Line) (m : Moment) (f : Found) (e : Event) (o : Option Board) (b : Board) → IsSound l xs f → Moves l xs m e o → o ≡ Some b → IsBoard f.layout (moment_of b)
-moved_board l xs m f e o b sound moves is = subst (λ (z : Layout). IsBoard z (moment_of b)) (sym sound.layout) (moved_goes l xs m e o b moves is).1
+-- the board at the end of a chain is one of the layout
+pub end_board : (l : Layout) (xs : List Line) (f : Found) (m n : Moment) (old new : List Event) → IsSound l xs f → Chains l xs m old new n → IsBoard f.layout n
+end_board l xs f m n old new sound chains = subst (λ (z : Layout). IsBoard z n) (sym sound.layout) chains.3
 
-pub tries_added : (l : Layout) (xs : List Line) (m : Moment) (old new : Found) (p : ℕ) (e : Event) (o : Option Board) (b : Board) → IsSound l xs old → IsAt old p m
-    → Moves l xs m e o → o ≡ Some b → IsKeyed new → Adds old new (moment_of b) p → Tries l xs old new m (λ f. f ≡ e) true
-tries_added l xs m old new p e o b sound at moves is keyed adds =
-    let both = moved_goes l xs m e o b moves is in
-    tries_one l xs old new p m (moment_of b) e sound at both.0 both.1 keyed adds
+-- an event led to a board, and a chain from there to another
+module _ (l : Layout) (xs : List Line) (m : Moment) (old : Found) (p : ℕ) (e : Event) (o : Option Board) (b : Board) (n : Moment) (before after : List Event)
+    (sound : IsSound l xs old) (at : IsAt old p m) (moves : Moves l xs m e o) (is : o ≡ Some b) (chains : Chains l xs (moment_of b) before after n) where
+  pub tries_added : (new : Found) → IsKeyed new → Adds old new n p → Tries l xs old new m (λ f. f ≡ e) true
+  tries_added new keyed adds =
+      tries_one l xs old new p m n e (scene_of (moment_of b)) chains.0 sound at (moved_goes l xs m e o b moves is).0 chains.2 chains.3 keyed adds
 
-pub tries_full : (l : Layout) (xs : List Line) (m : Moment) (old : Found) (p : ℕ) (e : Event) (o : Option Board) (b : Board) → IsSound l xs old → IsAt old p m
-    → Moves l xs m e o → o ≡ Some b → IsFull old (moment_of b) → Exceeds l xs old.limit
-tries_full l xs m old p e o b sound at moves is full =
-    let both = moved_goes l xs m e o b moves is in
-    exceeds l xs old old p m (moment_of b) e sound at both.0 both.1 full
+  pub tries_full : IsFull old n → Exceeds l xs old.limit
+  tries_full full =
+      exceeds l xs old old p m n e (scene_of (moment_of b)) chains.0 sound at (moved_goes l xs m e o b moves is).0 chains.2 chains.3 full
 
 -- three choices make up all
 three_of : (t : ℕ) (a b c : Option Choice) (e : Event) → AreTried t (a ∷ b ∷ c ∷ []) e → (IsTried t a e ⊎ IsTried t b e) ⊎ IsTried t c e

@@ -1,12 +1,12 @@
 pub mod Boards
 pub mod Thinned
 pub mod Planned
+pub mod Chains
 pub mod Seen
 pub mod Keys
 pub mod Founds
 pub mod Moves
 pub mod Tries
-pub mod Surveys
 pub mod Explored
 pub mod Firsts
 pub mod Searches

@@ -16,7 +16,7 @@ use Rattle.script_plays.specs.Plays.{Goes, GoesOn, IsPlayTo}
 use Rattle.script_search.specs.declared.found.Found.{Found}
 use Rattle.script_search.specs.Boards.{Moment, spec_of, scene_of, played_of}
 use Rattle.script_search.specs.Founds.{moments_of, IsKeyed}
-use Rattle.script_search.specs.Seen.{HasScene, IsSeen}
+use Rattle.script_search.specs.Seen.{HasEnd, IsSeen}
 
 -- the boards are kept as their bytes in the layout, and each is found from an earlier one
 pub record IsSound (l : Layout) (xs : List Line) (f : Found) : Type 0 where
@@ -34,10 +34,10 @@ pub record Grows (l : Layout) (xs : List Line) (old new : Found) : Type 0 where
   pub kept : (k : ℕ) (m : Moment) → IsAt old k m → IsAt new k m
   pub limit : new.limit ≡ old.limit
 
--- all scenes to which one of these events leads from the moment are there now, and the answer says whether there is one
+-- where one of these events leads on from the moment, the end of the chain after it is there now, and the answer says whether one does
 pub record Tries (l : Layout) (xs : List Line) (old new : Found) (m : Moment) (here : Event → Type 0) (answer : Bool) : Type 0 where
   pub grows : Grows l xs old new
-  pub covers : (e : Event) (s : Scene) → here e → Goes l xs (scene_of m) e s → HasScene (moments_of new) s
+  pub covers : (e : Event) (s : Scene) → here e → Goes l xs (scene_of m) e s → HasEnd l xs (moments_of new) s
   pub goes : MatchBool answer (GoesOn l xs (scene_of m)) ((e : Event) (s : Scene) → here e → Goes l xs (scene_of m) e s → ⊥)
 
 -- more scenes than are allowed, all different, are reached by plays

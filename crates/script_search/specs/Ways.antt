@@ -1,4 +1,5 @@
--- Which event leads from one moment to another.
+-- Which event, and the chain after it, lead from one moment to another.
+use Rattle.std.proofs.Common.{Vec, Global}
 use Rattle.std.specs.Prelude.{◌≡◌, ℕ, List, [], ◌∷◌, length, Option, Some, None, slice_get}
 use Rattle.larch_actions.specs.declared.event.Action.TheVariants as action
 use Rattle.larch_actions.specs.declared.event.Event.{Event}
@@ -9,17 +10,23 @@ use Rattle.script_text.specs.declared.line.Line.{Line}
 use Rattle.script_text.specs.Runs.{event}
 use Rattle.script_plays.specs.declared.choice.Choice.{Choice}
 use Rattle.script_plays.specs.Choices.{stays}
-use Rattle.script_plays.specs.Plays.{Goes}
+use Rattle.script_plays.specs.Scenes.{Scene}
+use Rattle.script_plays.specs.Plays.{Goes, Plays}
 use Rattle.script_search.specs.Boards.{Moment, scene_of}
+use Rattle.script_search.specs.Chains.{IsChain}
 use Rattle.script_search.specs.Tries.{MayTryAll}
 
 abbrev pub Leads : Layout → List Line → Moment → Moment → Event → Type 0
-Leads l xs m n e = Goes l xs (scene_of m) e (scene_of n)
+Leads l xs m n e = (u : Scene) × (h : List Event) × Goes l xs (scene_of m) e u × IsChain l xs u h (scene_of n)
 
--- this event of the thread leads from the one to the other, or none does
-abbrev pub IsStep : Layout → List Line → Moment → Moment → ℕ → Option Event → Type 0
-IsStep l xs m n t None = (e : Event) → e.thread.0 ≡ t → Leads l xs m n e → ⊥
-IsStep l xs m n t (Some e) = Leads l xs m n e
+-- the events lead from the one to the other
+abbrev pub LeadsBy : Layout → List Line → Moment → Moment → List Event → Type 0
+LeadsBy l xs m n h = Plays l xs (scene_of m) h (scene_of n)
+
+-- these events lead from the one to the other, or none of these first events does with its chain
+abbrev pub IsStep : Layout → List Line → Moment → Moment → (Event → Type 0) → Option (Vec Event Global) → Type 0
+IsStep l xs m n here None = (e : Event) → here e → Leads l xs m n e → ⊥
+IsStep l xs m n here (Some v) = LeadsBy l xs m n v.items
 
 -- the choice leads from the one to the other
 abbrev pub IsWay : Layout → List Line → Moment → Moment → ℕ → List (Option Choice) → ℕ → Choice → Type 0

@@ -3,14 +3,13 @@ ghost use Rattle.std.specs.Prelude.{◌≡◌, ◌<◌, ◌≤◌, ◌||◌, ℕ
 ghost use Rattle.script_text.specs.Text.{IsScript};
 ghost use Rattle.script_text.specs.Runs.{event, lines_of};
 ghost use Rattle.script_plays.specs.declared.choice.Choice.{Choice};
-ghost use Rattle.script_plays.specs.Scenes.{Scene};
-ghost use Rattle.script_plays.specs.Plays.{Goes};
 ghost use Rattle.script_search.specs.declared.found.Stop.TheVariants as Stop;
-ghost use Rattle.script_search.specs.Boards.{moment_of, scene_of, played_of, IsBoard};
+ghost use Rattle.script_search.specs.Boards.{moment_of, played_of, IsBoard};
 ghost use Rattle.script_search.specs.Tries.{IsSound, IsAt, Tries, Exceeds, MayTry, MayTryAll, IsTried, AreTried, MaySignal, Leaves};
 ghost use Rattle.larch_actions.specs.Sets.{in_set};
 
 use crate::board::Board;
+use crate::chain::go_along;
 use crate::found::{Found, Stop};
 use crate::moves::next_scenes;
 use crate::plan::Plan;
@@ -27,8 +26,8 @@ pub struct Node<'a> {
     pub thread: u32,
 }
 
-/// Tries one choice of the thread, and says whether it may make it.
-pub fn attempt(
+// Tries one choice of the thread, and says whether it may make it. Adds the scene at the end of the chain after it.
+fn attempt(
     alloc: Global,
     plan: &Plan,
     found: &mut Found,
@@ -39,18 +38,18 @@ pub fn attempt(
     requires there { IsAt found.old node.now.place (moment_of node.now.board.now) }
     requires board { IsBoard plan.now.layout (moment_of node.now.board.now) }
     requires may { MayTry plan.now.layout plan.now.lines (moment_of node.now.board.now) node.now.thread choice.now }
+    requires script { IsScript plan.now.layout plan.now.lines }
     ensures ok { IfOk result (Tries plan.now.layout plan.now.lines found.old found.new (moment_of node.now.board.now)
         (λ e. e ≡ event node.now.thread choice.now.action)) }
-    ensures goes { IfOk result (λ moves. moves ≡ true
-        → (s : Scene) × Goes plan.now.layout plan.now.lines (scene_of (moment_of node.now.board.now))
-        (event node.now.thread choice.now.action) s) }
     ensures full { IfErr result (λ stop. stop ≡ Stop.Limit → Exceeds plan.now.layout plan.now.lines found.old.limit) }
 {
     let next = match next_scenes(alloc, plan, node.board, node.thread, choice)? {
         None => return Ok(false),
         Some(next) => next,
     };
-    match found.add(alloc, &next, node.place) {
+    let mut events = Vec::new(alloc);
+    let end = go_along(alloc, plan, next, &mut events)?;
+    match found.add(alloc, &end, node.place) {
         Ok(()) => Ok(true),
         Err(stop) => Err(stop),
     }
@@ -69,6 +68,7 @@ fn maybe(
     requires board { IsBoard plan.now.layout (moment_of node.now.board.now) }
     requires may { (c : Choice) → choice.now ≡ Some c
         → MayTry plan.now.layout plan.now.lines (moment_of node.now.board.now) node.now.thread c }
+    requires script { IsScript plan.now.layout plan.now.lines }
     ensures ok { IfOk result (Tries plan.now.layout plan.now.lines found.old found.new (moment_of node.now.board.now)
         (IsTried node.now.thread choice.now)) }
     ensures full { IfErr result (λ stop. stop ≡ Stop.Limit → Exceeds plan.now.layout plan.now.lines found.old.limit) }
@@ -100,6 +100,7 @@ fn each_choice(
     requires there { IsAt found.old node.now.place (moment_of node.now.board.now) }
     requires board { IsBoard plan.now.layout (moment_of node.now.board.now) }
     requires may { MayTryAll plan.now.layout plan.now.lines (moment_of node.now.board.now) node.now.thread choices.now }
+    requires script { IsScript plan.now.layout plan.now.lines }
     ensures ok { IfOk result (Tries plan.now.layout plan.now.lines found.old found.new (moment_of node.now.board.now)
         (AreTried node.now.thread choices.now)) }
     ensures full { IfErr result (λ stop. stop ≡ Stop.Limit → Exceeds plan.now.layout plan.now.lines found.old.limit) }
@@ -142,6 +143,7 @@ fn signals(
     requires before { part.now.before ≤ plan.now.layout.threads }
     requires few { plan.now.layout.threads ≤ 256 }
     requires left { (u : ℕ) → in_set part.now.left u ≡ true → u < part.now.before }
+    requires script { IsScript plan.now.layout plan.now.lines }
     ensures ok { IfOk result (Tries plan.now.layout plan.now.lines found.old found.new (moment_of node.now.board.now)
         (Leaves (moment_of node.now.board.now) plan.now.layout.threads node.now.thread part.now.cond part.now.left part.now.before)) }
     ensures full { IfErr result (λ stop. stop ≡ Stop.Limit → Exceeds plan.now.layout plan.now.lines found.old.limit) }
@@ -192,6 +194,7 @@ fn at_end(alloc: Global, plan: &Plan, found: &mut Found, node: &Node) -> Result<
     requires there { IsAt found.old node.now.place (moment_of node.now.board.now) }
     requires board { IsBoard plan.now.layout (moment_of node.now.board.now) }
     requires thread { node.now.thread < plan.now.layout.threads }
+    requires script { IsScript plan.now.layout plan.now.lines }
     requires past { slice_get (lines_of node.now.thread plan.now.lines) (played_of (moment_of node.now.board.now) node.now.thread) ≡ None }
     ensures ok { IfOk result (Tries plan.now.layout plan.now.lines found.old found.new (moment_of node.now.board.now)
         (λ e. e.thread.0 ≡ node.now.thread)) }

@@ -10,9 +10,9 @@ ghost use Rattle.script_search.specs.Searches.{Searched, IsDead};
 ghost use Rattle.script_search.specs.Tries.{Exceeds};
 
 use crate::board::Board;
+use crate::expand::expand_all;
 use crate::found::{Found, Stop};
 use crate::plan::Plan;
-use crate::survey::survey;
 use crate::trace::trace;
 use crate::whole::is_whole;
 use larch_actions::Event;
@@ -52,7 +52,7 @@ fn start(alloc: Global, plan: &Plan, limit: u32) -> Result<Found, Stop>
     }
 }
 
-// Looks at the board at the place: adds the scenes to which it leads, as many as need be, and says whether it is whole or goes on.
+// Looks at the board at the place: adds the scenes to which it leads, and says whether it is whole or goes on.
 fn look(alloc: Global, plan: &Plan, found: &mut Found, place: u32, limit: u32) -> Result<bool, Stop>
     requires searched { Searched plan.now.layout plan.now.lines limit found.old place }
     requires there { place < length (moments_of found.old) }
@@ -63,7 +63,7 @@ fn look(alloc: Global, plan: &Plan, found: &mut Found, place: u32, limit: u32) -
     ensures full { IfErr result (λ stop. stop ≡ Stop.Limit → Exceeds plan.now.layout plan.now.lines limit) }
 {
     let board = found.board(alloc, place)?;
-    let moves = match survey(alloc, plan, found, &board, place) {
+    let moves = match expand_all(alloc, plan, found, &board, place) {
         Ok(moves) => moves,
         Err(stop) => return Err(stop),
     };

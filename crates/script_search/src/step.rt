@@ -1,4 +1,4 @@
-//! Which event leads from one board to another.
+//! Which event, and the chain after it, lead from one board to another.
 ghost use Rattle.std.specs.Prelude.{◌≡◌, ◌<◌, ◌≤◌, ◌↔◌, ℕ, IsTrue, IfOk};
 ghost use Rattle.larch_actions.specs.declared.event.Event.{Event};
 ghost use Rattle.larch_actions.specs.Sets.{in_set};
@@ -8,9 +8,10 @@ ghost use Rattle.script_plays.specs.Choices.{three};
 ghost use Rattle.script_search.specs.Boards.{moment_of, spec_of, IsBoard};
 ghost use Rattle.script_search.specs.Keys.{key_of};
 ghost use Rattle.script_search.specs.Tries.{MayTry};
-ghost use Rattle.script_search.specs.Ways.{Leads, IsStep, AreWays, last_choices};
+ghost use Rattle.script_search.specs.Ways.{Leads, LeadsBy, IsStep, AreWays, last_choices};
 
 use crate::board::Board;
+use crate::chain::go_along;
 use crate::moves::next_scenes;
 use crate::pack::pack;
 use crate::plan::Plan;
@@ -85,7 +86,7 @@ fn is_same(alloc: Global, a: &Board, b: &Board) -> Result<bool, AllocError>
     Ok(key.as_slice() == other.as_slice())
 }
 
-// Whether the choice leads from the one board to the other.
+// The events from the one board to the other if they are this choice and the chain after it.
 fn leads(
     alloc: Global,
     plan: &Plan,
@@ -93,62 +94,67 @@ fn leads(
     to: &Board,
     t: u32,
     choice: &Choice,
-) -> Result<bool, AllocError>
+) -> Result<Option<Vec<Event>>, AllocError>
     requires from { IsBoard plan.now.layout (moment_of from.now) }
     requires to { IsBoard plan.now.layout (moment_of to.now) }
     requires may { MayTry plan.now.layout plan.now.lines (moment_of from.now) t choice.now }
-    ensures { IfOk result (λ b. IsTrue b
-        ↔ Leads plan.now.layout plan.now.lines (moment_of from.now) (moment_of to.now) (event t choice.now.action)) }
+    requires script { IsScript plan.now.layout plan.now.lines }
+    ensures { IfOk result (IsStep plan.now.layout plan.now.lines (moment_of from.now) (moment_of to.now)
+        (λ e. e ≡ event t choice.now.action)) }
 {
-    match next_scenes(alloc, plan, from, t, choice)? {
-        None => Ok(false),
-        Some(board) => {
-            let same = is_same(alloc, &board, to)?;
-            Ok(same)
-        }
+    let board = match next_scenes(alloc, plan, from, t, choice)? {
+        None => return Ok(None),
+        Some(board) => board,
+    };
+    let thread = ThreadId(t);
+    let action = choice.action;
+    let mut events = Vec::new(alloc);
+    events.push(Event { thread, action })?;
+    let end = go_along(alloc, plan, board, &mut events)?;
+    if is_same(alloc, &end, to)? {
+        return Ok(Some(events));
     }
+    Ok(None)
 }
 
-// The event by which the thread leads from the one board to the other, if there is one.
+// The events from the one board to the other, if they are one of the thread and the chain after it.
 fn step_of(
     alloc: Global,
     plan: &Plan,
     from: &Board,
     to: &Board,
     t: u32,
-) -> Result<Option<Event>, AllocError>
+) -> Result<Option<Vec<Event>>, AllocError>
     requires from { IsBoard plan.now.layout (moment_of from.now) }
     requires to { IsBoard plan.now.layout (moment_of to.now) }
     requires thread { t < plan.now.layout.threads }
     requires few { plan.now.layout.threads ≤ 256 }
     requires script { IsScript plan.now.layout plan.now.lines }
-    ensures { IfOk result (IsStep plan.now.layout plan.now.lines (moment_of from.now) (moment_of to.now) t) }
+    ensures { IfOk result (IsStep plan.now.layout plan.now.lines (moment_of from.now) (moment_of to.now) (λ e. e.thread.0 ≡ t)) }
 {
     let ways = ways(plan, from, to, t);
     for k in 0..3 {
         if let Some(choice) = ways[k] {
-            if leads(alloc, plan, from, to, t, &choice)? {
-                let thread = ThreadId(t);
-                let action = choice.action;
-                return Ok(Some(Event { thread, action }));
+            if let Some(events) = leads(alloc, plan, from, to, t, &choice)? {
+                return Ok(Some(events));
             }
         }
     }
     Ok(None)
 }
 
-/// The event that leads from the one board to the other.
-pub fn step(alloc: Global, plan: &Plan, from: &Board, to: &Board) -> Result<Event, AllocError>
+/// The events that lead from the one board to the other: one, and the chain after it.
+pub fn step(alloc: Global, plan: &Plan, from: &Board, to: &Board) -> Result<Vec<Event>, AllocError>
     requires from { IsBoard plan.now.layout (moment_of from.now) }
     requires to { IsBoard plan.now.layout (moment_of to.now) }
     requires few { plan.now.layout.threads ≤ 256 }
     requires script { IsScript plan.now.layout plan.now.lines }
     requires some { (e : Event) × Leads plan.now.layout plan.now.lines (moment_of from.now) (moment_of to.now) e }
-    ensures { IfOk result (Leads plan.now.layout plan.now.lines (moment_of from.now) (moment_of to.now)) }
+    ensures { IfOk result (λ v. LeadsBy plan.now.layout plan.now.lines (moment_of from.now) (moment_of to.now) v.items) }
 {
     for t in 0..plan.layout().threads {
-        if let Some(event) = step_of(alloc, plan, from, to, t)? {
-            return Ok(event);
+        if let Some(events) = step_of(alloc, plan, from, to, t)? {
+            return Ok(events);
         }
     }
     unreachable!()

@@ -31,7 +31,9 @@ pub fn trace(
         let parent = found.parent(at);
         let from = found.board(alloc, parent)?;
         let to = found.board(alloc, at)?;
-        events.push(step(alloc, plan, &from, &to)?)?;
+        let mut last = step(alloc, plan, &from, &to)?;
+        last.reverse();
+        events.extend_from_slice(last.as_slice())?;
         at = parent;
     }
     events.reverse();

@@ -21,6 +21,7 @@ each_choice-requires c =
       there = c.requires.there;
       board = c.requires.board;
       may = subst (λ (cs : List (Option Choice)). MayTryAll c.args.plan.now.layout c.args.plan.now.lines (moment_of c.args.node.now.board.now) c.args.node.now.thread cs) (sym c.choices.ensures) (may_choices c.args.plan.now.layout c.args.plan.now.lines (moment_of c.args.node.now.board.now) c.args.node.now.thread c.in-Some.line c.requires.script there);
+      script = c.requires.script;
     }
 
 pub returns-in-Ok-clause-ok : goal.returns-in-Ok-clause-ok

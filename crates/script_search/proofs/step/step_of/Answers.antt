@@ -1,13 +1,12 @@
-use Rattle.std.proofs.Common.{None, arith, get_or, subst}
+use Rattle.std.proofs.Common.{◌≡◌, None, refl, arith, get_or, subst}
 use Rattle.script_text.specs.Runs.{event}
 use Rattle.script_plays.specs.declared.choice.Choice.{Choice}
 use Rattle.script_search.specs.Boards.{moment_of}
 use Rattle.script_search.specs.Ways.{Leads}
-use Rattle.script_search.proofs.Tells.{fails}
-use Rattle.script_search.proofs.Stepping.{choice_there, way_there, none_more, no_step}
+use Rattle.script_search.proofs.Stepping.{choice_there, way_there, none_more, no_step, step_none}
 use Rattle.script_search.proofs.Trying.{some_same}
 use Rattle.script_search.proofs.step.step_of.Goals as goal
-use Rattle.script_search.proofs.step.step_of.Goals.{in-Some+in_ok-leads+else-branch, in_default}
+use Rattle.script_search.proofs.step.step_of.Goals.{in-Some+in_ok-events+in_default-2, in_default}
 
 pub loop-k-init : goal.loop-k-init
 loop-k-init c = λ j d low way. omega arith
@@ -28,10 +27,11 @@ loop-k-preserved c =
     none_more l xs m n t cs c.loop-k.k c.loop-k.invariant (λ d way.
     let there = way_there l xs m n t cs c.loop-k.k d c.ways-ways.ensures c.loop-k-test.true way in
     elim c.match-ways-k.branch [
-      | in-Some+in_ok-leads+else-branch w ↦
+      | in-Some+in_ok-events+in_default-2 w ↦
           let own = w.in-Some.choice in
           let is = some_same d own (get_or cs c.loop-k.k None) there w.in-Some.is in
-          fails w.in_ok-leads.field-0 (Leads l xs m n (event t own.action)) w.in_ok-leads.ensures w.if-branch.false (subst (λ (z : Choice). Leads l xs m n (event t z.action)) is way.1)
+          step_none l xs m n t (λ e. e ≡ event t own.action) w.in_ok-events.field-0 w.in_default-2.not-Some w.in_ok-events.ensures (event t own.action) refl
+          (subst (λ (z : Choice). Leads l xs m n (event t z.action)) is way.1)
       | in_default w ↦ w.in_default.not-Some d there
     ])
 

@@ -1,4 +1,4 @@
-use Rattle.std.proofs.Common.{◌≡◌, ◌<◌, List, arith, length, subst, sym}
+use Rattle.std.proofs.Common.{◌≡◌, ◌∙◌, ◌++◌, ◌<◌, List, ap, arith, length, subst, sym}
 use Rattle.larch_actions.specs.declared.event.Event.{Event}
 use Rattle.script_plays.specs.Plays.{IsPlayTo}
 use Rattle.script_search.specs.Boards.{moment_of, scene_of}
@@ -33,9 +33,9 @@ loop-at-preserved c =
     let before = parent_before l xs f c.requires.sound c.loop-at.at c.parent-parent.result c.loop-at-test.true c.loop-at.invariant.there c.parent-parent.ensures in
     record {
       there = omega (arith, before, c.loop-at.invariant.there);
-      back = subst (λ (es : List Event). LeadBack l xs f c.parent-parent.result c.args.place es) (sym c.in_ok-push.ensures.items)
-          (back_more l xs f c.requires.sound c.parent-parent.result c.loop-at.at c.args.place c.loop-at.events.items (moment_of c.in_ok-from.from) (moment_of c.in_ok-to.to) c.in_ok-step.field-0
-          c.in_ok-from.ensures c.in_ok-to.ensures c.in_ok-step.ensures c.loop-at.invariant.back);
+      back = subst (λ (es : List Event). LeadBack l xs f c.parent-parent.result c.args.place es) (sym (c.in_ok-extend_from_slice.ensures.items ∙ ap (λ (z : List Event). c.loop-at.events.items ++ z) (c.as_slice.ensures.value ∙ c.reverse.ensures.items)))
+          (back_more l xs f c.requires.sound c.parent-parent.result c.loop-at.at c.args.place c.loop-at.events.items (moment_of c.in_ok-from.from) (moment_of c.in_ok-to.to) c.in_ok-last.last.items
+          c.in_ok-from.ensures c.in_ok-to.ensures c.in_ok-last.ensures c.loop-at.invariant.back);
     }
 
 pub returns : goal.returns
@@ -46,4 +46,4 @@ returns c = λ m there.
     let zero : c.loop-at.at ≡ 0 = omega (arith, c.loop-at-test.false) in
     let some : 0 < length (moments_of f) = omega (arith, c.loop-at.invariant.there) in
     let back = subst (λ k. LeadBack l xs f k c.args.place c.loop-at.events.items) zero c.loop-at.invariant.back in
-    subst (λ (es : List Event). IsPlayTo l xs es (scene_of m)) (sym c.reverse.ensures.items) (back_all l xs f c.requires.sound c.args.place c.loop-at.events.items m some back there)
+    subst (λ (es : List Event). IsPlayTo l xs es (scene_of m)) (sym c.reverse-2.ensures.items) (back_all l xs f c.requires.sound c.args.place c.loop-at.events.items m some back there)
