@@ -1,7 +1,7 @@
 -- THE RULE, in public words: what is true between any two steps of the words, the slots at home and
 -- the views of the threads. The law `laws::the_rule_says` proves it of every state that meets the
 -- invariant.
-use Rattle.std.specs.Prelude.{Bool, Option as Opt, true, false, ◌≡◌, ◌≢◌, ◌↔◌, ◌⊎◌, ℕ, ◌+◌, ◌<◌, ◌≤◌, List, [], ◌++◌, length, slice_index, Some, None}
+use Rattle.std.specs.Prelude.{Bool, Option as Opt, true, false, ◌≡◌, ◌≢◌, ◌↔◌, ◌⊎◌, ℕ, ◌+◌, ◌<◌, ◌≤◌, List, [], ◌∷◌, ◌++◌, length, slice_index, Some, None}
 use mathlib.Core.Option.{Option, some}
 use lib.ListN.{get_elem?}
 use Rattle.larch_actions.specs.declared.event.Layout.{Layout}
