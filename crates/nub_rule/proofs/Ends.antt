@@ -40,6 +40,7 @@ use Rattle.nub_rule.specs.Slots.{find, Below}
 use Rattle.nub_rule.proofs.Apart.{thread-of}
 use Rattle.nub_rule.proofs.Turns.{find-here}
 use Rattle.nub_rule.proofs.Beginning.{raisers-none}
+use Rattle.nub_rule.proofs.Stinting.{stinted-end}
 use Rattle.nub_rule.specs.Ends.{AreFirst, firsts, living, opening_slots, Settles, Leaves}
 use Rattle.nub_rule.proofs.Each.{put-at, put-else, at_within, at_below, same_at, at_middle, same_elements, at_firsts}
 
@@ -291,6 +292,7 @@ module _ {T H W : Type 0} (l : Layout) (traced : Bool) (w : W) (begin : W → �
           kept = c.owned.kept;
           each_share = c.owned.shares_wide;
           shared = c.owned.shared;
+          stinted = stinted-end c.owner free c.stinted;
         });
         many = c.owned.values_wide;
         values_there = λ m x at. let lv = c.owned.values_wide in let low = at_within c.values m x at in f.4 (value_at m) (Value (Some x)) (c.owned.at_home m (omega arith) x at (free m));

@@ -5,6 +5,7 @@ pub mod Members
 pub mod Runs
 pub mod Frames
 pub mod Stinting
+pub mod Takers
 pub mod Beside
 pub mod Penning
 pub mod Marking

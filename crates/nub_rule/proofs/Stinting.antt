@@ -16,7 +16,7 @@ use Rattle.nub_rule.specs.declared.view.Stint.{Stint}
 use Rattle.nub_rule.specs.declared.view.Wait.{Wait}
 use Rattle.nub_rule.specs.Parts.{closing_on, is_closing, waits_on}
 use Rattle.nub_rule.specs.Plays.{enqueue_event, recounted, taken_action, unread}
-use Rattle.nub_rule.specs.Stints.{AreInTurn, Stinted, StintsLead, gives, givers, stinters, stints_at, stints_by}
+use Rattle.nub_rule.specs.Stints.{AreInTurn, Stinted, StintedToEnd, StintsLead, gives, givers, stinters, stints_at, stints_by}
 use Rattle.atomic_table.proofs.Lists.{set_here, set_else}
 use Rattle.nub_rule.proofs.Each.{at_within, each-set, put-at, put-else}
 
@@ -66,7 +66,7 @@ module _ {T H : Type 0} where
   -- one stint more leads on
   lead-snoc : (holds : List T → List H → Type 0) (xs : List T) (hs : List H) (ss : List (Stint T H)) (ys : List T) (rs : List H) (s : Stint T H) → StintsLead holds xs hs ss ys rs → get_elem? ys s.mutex ≡ some s.got → get_elem? rs s.thread ≡ some s.before → holds (set ys s.mutex s.left) (set rs s.thread s.after)
       → StintsLead holds xs hs (ss ++ s ∷ []) (set ys s.mutex s.left) (set rs s.thread s.after)
-  lead-snoc holds xs hs [] ys rs s k got before kept = (k.0, ap (λ l. get_elem? l s.mutex) k.1 ∙ got, ap (λ l. get_elem? l s.thread) k.2 ∙ before, subst₂ holds (λ i. set (sym k.1 i) s.mutex s.left) (λ i. set (sym k.2 i) s.thread s.after) kept, (λ i. set (k.1 i) s.mutex s.left), λ i. set (k.2 i) s.thread s.after)
+  lead-snoc holds xs hs [] ys rs s k got before kept = (k.0, ap (λ l. get_elem? l s.mutex) k.1 ∙ got, ap (λ l. get_elem? l s.thread) k.2 ∙ before, (subst₂ holds (λ i. set (sym k.1 i) s.mutex s.left) (λ i. set (sym k.2 i) s.thread s.after) kept, (λ i. set (k.1 i) s.mutex s.left), λ i. set (k.2 i) s.thread s.after))
   lead-snoc holds xs hs (t ∷ ss) ys rs s k got before kept = (k.0, k.1, k.2, lead-snoc holds (set xs t.mutex t.left) (set hs t.thread t.after) ss ys rs s k.3 got before kept)
 
   -- the stints of the thread n, and one more with the mutex m
@@ -142,6 +142,9 @@ module _ {T H : Type 0} where
         (λ j is. dite (ℕ_discrete j m) (λ e. absurd (some-ne-none n (sym is ∙ put-at owner m none j e)))
         (λ ne. put-else k.closing m j [] ne ∙ (k.closes n p at j (sym (put-else owner m j none ne) ∙ is) ∙ ap (λ b. cond b (n ∷ []) []) (sym (wait j ne)))))
         (λ j i ne is. dite (ℕ_discrete j m) (λ e. absurd (some-ne-none i (sym is ∙ put-at owner m none j e))) (λ other. (sym (put-else owner m j none other) ∙ is, put-else k.closing m j [] other)))
+
+  pub stinted-end : {holds : List T → List H → Type 0} {log : List Event} {values : List T} {shares : List H} {all : List (Part T H)} (owner : ℕ → Option ℕ) → ((m : ℕ) → owner m ≡ none) → Stinted holds log owner values shares all → StintedToEnd holds log values shares all
+  stinted-end owner free k = record { first = k.first; first_shares = k.first_shares; stints = k.stints; lead = k.lead; own = k.own; gives = λ m. k.gives m ∙ (ap (λ l. stinters m k.stints ++ l) (k.free m (free m)) ∙ append-nil (stinters m k.stints)) }
 
   -- each stint with a mutex got what the one before left
   pub lead-in-turn : (holds : List T → List H → Type 0) (m : ℕ) (xs : List T) (hs : List H) (ss : List (Stint T H)) (ys : List T) (rs : List H) (x y : T) → StintsLead holds xs hs ss ys rs → get_elem? xs m ≡ some x → get_elem? ys m ≡ some y → AreInTurn x (stints_at m ss) y

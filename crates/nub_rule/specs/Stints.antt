@@ -4,7 +4,7 @@ use mathlib.Core.Option.{Option, none, some}
 use lib.ListN.{get_elem?}
 use Rattle.larch_actions.specs.declared.event.Event.{Event}
 use Rattle.larch_actions.specs.declared.event.Action.{Action}
-use Rattle.larch_actions.specs.declared.event.Action.TheVariants.{Release, Enqueue, AlertEnqueue}
+use Rattle.larch_actions.specs.declared.event.Action.TheVariants.{Acquire, Release, Enqueue, Resume, AlertEnqueue, AlertReturn, AlertRaise}
 use Rattle.nub_rule.specs.declared.view.Part.{Part}
 use Rattle.nub_rule.specs.declared.view.Stint.{Stint}
 use Rattle.nub_rule.specs.Parts.{closing_on}
@@ -16,9 +16,20 @@ gives m (Enqueue x c) = eqb x.0 m
 gives m (AlertEnqueue x c) = eqb x.0 m
 gives m _ = false
 
--- the threads that gave the mutex m back, in order
+-- and takes it
+abbrev pub takes : ℕ → Action → Bool
+takes m (Acquire x) = eqb x.0 m
+takes m (Resume x c) = eqb x.0 m
+takes m (AlertReturn x c) = eqb x.0 m
+takes m (AlertRaise x c) = eqb x.0 m
+takes m _ = false
+
+-- the threads that gave the mutex m back, and those that took it, in order
 abbrev pub givers : ℕ → List Event → List ℕ
 givers m log = map (λ e. e.thread.0) (filter (λ e. gives m e.action) log)
+
+abbrev pub takers : ℕ → List Event → List ℕ
+takers m log = map (λ e. e.thread.0) (filter (λ e. takes m e.action) log)
 
 module _ {T H : Type 0} where
   -- the stints of the thread n, those with the mutex m, and the threads of these
@@ -57,3 +68,12 @@ module _ {T H : Type 0} where
     pub gives : (m : ℕ) → givers m log ≡ stinters m stints ++ closing m
     pub free : (m : ℕ) → owner m ≡ none → closing m ≡ []
     pub closes : (n : ℕ) (p : Part T H) → get_elem? all n ≡ some p → (m : ℕ) → owner m ≡ some n → closing m ≡ cond (closing_on p.wait m) (n ∷ []) []
+
+  -- the same at the close, when no thread has a mutex
+  pub record StintedToEnd (holds : List T → List H → Type 0) (log : List Event) (values : List T) (shares : List H) (all : List (Part T H)) : Type 0 where
+    pub first : List T
+    pub first_shares : List H
+    pub stints : List (Stint T H)
+    pub lead : StintsLead holds first first_shares stints values shares
+    pub own : (n : ℕ) (p : Part T H) → get_elem? all n ≡ some p → stints_by n stints ≡ p.stints
+    pub gives : (m : ℕ) → givers m log ≡ stinters m stints
