@@ -15,7 +15,10 @@ mod next;
 mod path;
 mod read;
 mod take;
+mod taker;
 mod token;
+mod whole;
 
 pub use exact_text::TextFault;
-pub use read::{read_index, read_index_within};
+pub use read::{read_index, read_index_within, tell_index};
+pub use taker::Taker;

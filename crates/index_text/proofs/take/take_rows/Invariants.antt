@@ -1,11 +1,12 @@
 use Rattle.std.proofs.Common.{◌≡◌}
 use Rattle.exact_text.specs.Intake.{room_of}
+use Rattle.index_text.specs.Told.{Told}
 use Rattle.index_text.proofs.Taken.{TakenRows}
 use Rattle.index_text.proofs.take.take_rows.Given as goal
 
 abbrev pub invariant-loop-fault : goal.invariant-loop-fault
 invariant-loop-fault g l = record {
-  taken : TakenRows l.initial.intake (g.I.Source.left l.initial.input) l.draft l.intake (g.I.Source.left l.input);
+  taken : (t : Told) × g.T.Taker.keeps l.taker t × TakenRows l.initial.intake (g.I.Source.left l.initial.input) t l.intake (g.I.Source.left l.input);
   unfailed : g.I.Source.faults l.input ≡ g.I.Source.faults l.initial.input;
 }
 

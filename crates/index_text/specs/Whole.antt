@@ -1,0 +1,10 @@
+-- A taker that keeps everything.
+use Rattle.std.specs.Prelude.{◌≡◌}
+use Rattle.index_table.specs.Rows.{Drafted}
+use Rattle.index_text.specs.declared.whole.Whole.{Whole}
+use Rattle.index_text.specs.Told.{Told}
+
+-- it keeps all that it was told
+pub record IsWhole (s : Whole) (t : Told) : Type 0 where
+  pub draft : s.draft ≡ record { rows = t.rows; hits = t.hits; skipped = t.skipped }
+  pub word : s.word.items ≡ t.word
