@@ -61,7 +61,11 @@ fn add_pattern(buf: &mut [u8], at: usize) -> usize
         at,
         b"<marker id='a' viewBox='0 0 6 6' refX='5' refY='3' markerWidth='7' markerHeight='7' markerUnits='userSpaceOnUse' orient='auto'><path class='ar' d='M0 0L6 3L0 6z' fill='#a02c6b'/></marker><filter id='t' x='-.05' y='-.15' width='1.1' height='1.3'><feFlood flood-color='#cf222e'/><feComposite in='SourceGraphic'/></filter></defs>\n",
     );
-    add(buf, at, b"<rect class='p' width='100%' height='100%'/>\n<g class='v'>\n")
+    add(
+        buf,
+        at,
+        b"<rect class='p' width='100%' height='100%'/>\n<g class='v'>\n",
+    )
 }
 
 // Adds what is no mark: the arrows, the bars and a wait.

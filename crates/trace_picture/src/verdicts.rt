@@ -178,13 +178,7 @@ fn add_facts_by(
 }
 
 // Adds what stood before the event.
-fn add_state(
-    buf: &mut [u8],
-    at: usize,
-    version: Version,
-    board: &TraceState,
-    e: &Event,
-) -> usize
+fn add_state(buf: &mut [u8], at: usize, version: Version, board: &TraceState, e: &Event) -> usize
     requires noted { IsNoted e.now }
     requires room { at + 29000 ≤ length buf.old }
     ensures text { take result buf.new ≡ take at buf.old ++ sentences (facts version (tracked_of board.now) e.now) }
