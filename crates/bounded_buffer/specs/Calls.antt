@@ -29,9 +29,9 @@ abbrev pub raise : ℕ → ℕ → ℕ → List Event
 raise t m c = enqueue_event true t m c ∷ wait_end Alerted t m c ∷ []
 
 -- a signal of the condition, if there is one
-abbrev pub tells : ℕ → List ℕ → Opt CondId → List Event
-tells t left (Some c) = event t (signal_action c.0 left) ∷ []
-tells t left None = []
+abbrev pub exit_events : ℕ → List ℕ → Opt CondId → List Event
+exit_events t left (Some c) = event t (signal_action c.0 left) ∷ []
+exit_events t left None = []
 
 module _ {T : Type 0} where
   -- whether a thread that did this signals the other side

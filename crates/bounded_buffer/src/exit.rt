@@ -5,7 +5,7 @@ ghost use Rattle.nub_rule.specs.Plays.{release_event};
 ghost use Rattle.nub.specs.Rest.{AtRest, Adds, IsSame};
 ghost use Rattle.bounded_buffer.specs.declared.did.Did.{Did};
 ghost use Rattle.bounded_buffer.specs.declared.side.Side.{Side};
-ghost use Rattle.bounded_buffer.specs.Calls.{tells};
+ghost use Rattle.bounded_buffer.specs.Calls.{exit_events};
 ghost use Rattle.bounded_buffer.specs.Rings.{Held};
 ghost use Rattle.bounded_buffer.specs.Waiting.{Ended, Visits};
 
@@ -55,7 +55,7 @@ pub(crate) fn give<B: BufferUse, C: Change<B>, R: Wait>(
     ensures rest { AtRest p.now me.new }
     ensures same { IsSame me.old me.new }
     ensures held { me.new.held ≡ slice_set me.old.held mutex.0 None }
-    ensures event { (left : List ℕ) × Adds (tells me.old.number left signalled) (release_event me.old.number mutex.0) me.old me.new }
+    ensures event { (left : List ℕ) × Adds (exit_events me.old.number left signalled) (release_event me.old.number mutex.0) me.old me.new }
     ensures share { (y : B.Value) × (B.ring_in y ≡ Some ring) × ((s : B.Share) (x : B.Value) → me.old.share ≡ Some s
         → Holds me.old mutex.0 x → me.new.share ≡ Some (C.after p.now.world mutex.0 me.old.number x y s)) }
 {

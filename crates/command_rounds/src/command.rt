@@ -10,7 +10,7 @@ ghost use Rattle.command_rounds.specs.RoundsCommand.{RoundsAnswers, AreThree};
 ghost use Rattle.trace_core.specs.Text.{ReadsAs, trace_text};
 ghost use Rattle.trace_core.specs.Whole.{numbered};
 
-use crate::run::run_rounds;
+use crate::run::play_rounds;
 use barrier_once::{Cell, RoundUses};
 use command_endings::{Ending, Status, ends};
 use firefly_outside::Sink;
@@ -56,7 +56,7 @@ fn print<O: Sink, N: Sink>(closed: &Closed<RoundUses>, out: &mut O, notes: &mut 
 
 /// Runs `rounds` rounds by `threads` threads, and writes the trace of the run, followed by its
 /// three values. Returns the status.
-pub fn write_rounds<R: Threads + Wait + Sync, O: Sink, N: Sink>(
+pub fn run_rounds<R: Threads + Wait + Sync, O: Sink, N: Sink>(
     rt: &R,
     alloc: Global,
     threads: u32,
@@ -69,7 +69,7 @@ pub fn write_rounds<R: Threads + Wait + Sync, O: Sink, N: Sink>(
     ensures { RoundsAnswers threads rounds (change_of O.held O.faults out.old out.new) (change_of N.held N.faults notes.old notes.new)
         result }
 {
-    match run_rounds(rt, alloc, threads, rounds) {
+    match play_rounds(rt, alloc, threads, rounds) {
         Ok(left) => {
             let status = print(&left.closed, out, notes);
             drop(left);

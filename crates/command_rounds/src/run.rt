@@ -90,7 +90,7 @@ fn first_cells(alloc: Global) -> Result<Vec<Cell>, AllocError>
 /// Blocks until all threads have ended. A thread that can't be started is run on the caller's
 /// thread after all others have been started, and then the call may block for ever. Fails only if
 /// there is no memory.
-pub fn run_rounds<R: Threads + Wait + Sync>(
+pub fn play_rounds<R: Threads + Wait + Sync>(
     rt: &R,
     alloc: Global,
     threads: u32,

@@ -5,7 +5,7 @@ ghost use Rattle.larch_actions.specs.Sets.{without};
 ghost use Rattle.nub_rule.specs.Items.{Small};
 ghost use Rattle.event_count.specs.Quiet.{quiet_action};
 ghost use Rattle.nub_rule.specs.Known.{Makes, learnt, recorded};
-ghost use Rattle.nub_rule.specs.Parts.{MayTell, made};
+ghost use Rattle.nub_rule.specs.Parts.{MayRecord, made};
 ghost use Rattle.nub_rule.specs.Places.{cond_object, most_threads};
 ghost use Rattle.nub_rule.specs.Plays.{tail_of, broadcast_action, event, signal_action};
 ghost use Rattle.nub.specs.Rest.{HasStored, IsOutside};
@@ -127,7 +127,7 @@ fn looks<U: Uses>(p: &Package<U>, me: &mut Thread<U>, c: CondId, all: bool) -> b
     requires of { me.old.table_id ≡ p.now.table_id }
     requires named { c.0 < p.now.layout.conditions }
     requires no_wait { me.old.wait ≡ None }
-    requires pen { MayTell p.now.traced me.old.life me.old.pen }
+    requires pen { MayRecord p.now.traced me.old.life me.old.pen }
     ensures event { result ≡ false → Makes (event me.old.number (quiet_action all c.0)) me.old me.new }
     ensures quiet { result ≡ false → me.new ≡ record me.old { part = record (learnt me.old.part me.new.part) { pen = made me.old.pen } } }
     ensures calls { result ≡ true → me.new ≡ record me.old { part = record me.old.part { calling = Some c.0 } } }

@@ -3,7 +3,7 @@ ghost use Rattle.std.specs.Prelude.{◌≡◌, ◌<◌, [], Some, None, true, fa
 ghost use Rattle.larch_actions.specs.Sets.{without};
 ghost use Rattle.nub_rule.specs.declared.view.Wait.{Wait as Waiting};
 ghost use Rattle.nub_rule.specs.Known.{Holds, Makes, learnt, recorded};
-ghost use Rattle.nub_rule.specs.Parts.{MayTell, made};
+ghost use Rattle.nub_rule.specs.Parts.{MayRecord, made};
 ghost use Rattle.nub_rule.specs.Places.{cond_object};
 ghost use Rattle.nub_rule.specs.Plays.{begun_wait, enqueue_event, recounted, unread};
 ghost use Rattle.nub.specs.Rest.{HasStored, IsOutside};
@@ -138,7 +138,7 @@ fn begin_wait<U: Uses>(
     requires no_wait { me.old.wait ≡ None }
     requires even { me.old.left ≡ me.old.queue }
     requires raised { me.old.raised ≡ Some c.0 }
-    requires pen { MayTell p.now.traced me.old.life me.old.pen }
+    requires pen { MayRecord p.now.traced me.old.life me.old.pen }
     ensures event { Makes (enqueue_event alertable me.old.number m.0 c.0) me.old me.new }
     ensures begun { me.new ≡ record me.old {
       part = record (learnt me.old.part me.new.part)

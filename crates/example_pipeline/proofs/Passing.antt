@@ -20,7 +20,7 @@ use Rattle.example_pipeline.specs.declared.stages.Came.{Came}
 use Rattle.example_pipeline.specs.Stages.{squared, numbers, squares, IsStage, IsOver, HasEnded, HasPassed, Passed, Worker}
 
 -- the share of the thread n says that it has done its stage, and left this
-pub record Tells (count : ℕ) (lefts : List Came) (n : ℕ) (s : List (Note ℕ)) : Type 0 where
+pub record Shows (count : ℕ) (lefts : List Came) (n : ℕ) (s : List (Note ℕ)) : Type 0 where
   pub left : Came
   pub is_left : get_elem? lefts n ≡ some left
   pub stage : IsStage count left n (settled (part_of s 0)) (settled (part_of s 1))
@@ -28,7 +28,7 @@ pub record Tells (count : ℕ) (lefts : List Came) (n : ℕ) (s : List (Note ℕ
 
 -- what a thread has done, its share says
 recorded : (count : ℕ) (lefts : List Came) (p : Shape (Unit {0})) (n : ℕ) (t : Worker) → (left : Came) × (get_elem? lefts n ≡ some left) × HasEnded (IsStage count left n) p n t
-    → (s : List (Note ℕ)) × (t.share ≡ Some s) × Tells count lefts n s
+    → (s : List (Note ℕ)) × (t.share ≡ Some s) × Shows count lefts n s
 recorded count lefts p n t h =
     let used = h.2.used in
     let said = used.said in (
@@ -48,7 +48,7 @@ pub record Passes (count : ℕ) (came : Came) (shares : List (List (Note ℕ))) 
   pub out : came.lost ≡ false → came.items.items ≡ squares count
   pub over : Each (IsOver count) values
 
-passes : (count : ℕ) (came : Came) (lefts : List Came) (shares : List (List (Note ℕ))) (values : List (Held ℕ)) → get_elem? lefts 2 ≡ some came → Keeps values shares → Each (Tells count lefts) shares
+passes : (count : ℕ) (came : Came) (lefts : List Came) (shares : List (List (Note ℕ))) (values : List (Held ℕ)) → get_elem? lefts 2 ≡ some came → Keeps values shares → Each (Shows count lefts) shares
     → length shares ≡ 3 → length values ≡ 2 → Passes count came shares values
 passes count came lefts (s ∷ r ∷ u ∷ []) (q ∷ v ∷ []) last kept each three two =
     let shares = s ∷ r ∷ u ∷ [] in
@@ -98,7 +98,7 @@ pub closes : (count : ℕ) (came : Came) (p : Shape (Unit {0})) (threads : List 
     → Each (λ n t. (left : Came) × (get_elem? lefts n ≡ some left) × HasEnded (IsStage count left n) p n t) threads → Closes count came threads values
 closes count came p threads lefts values locks three two last ended =
     let shares = locks.shares in
-    let each = all_recorded (Tells count lefts) threads shares locks.each_share (λ n t at. recorded count lefts p n t (ended n t at)) in
+    let each = all_recorded (Shows count lefts) threads shares locks.each_share (λ n t at. recorded count lefts p n t (ended n t at)) in
     let all = passes count came lefts shares values last locks.kept each (share_count threads shares locks.each_share ∙ three) two in
     record {
       passed = λ n t at. let own = share_of threads shares locks.each_share n t at in record { share = own.0; is_share = own.2; passed = all.each n own.0 own.1 };

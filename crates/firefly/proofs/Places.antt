@@ -3,7 +3,7 @@ use Rattle.std.proofs.Common.{◌≡◌, inl, inr, ℕ, zero, suc, ◌<◌, List
 use Rattle.std.specs.Prelude.{slice_index_or}
 use Rattle.std.proofs.lemmas.Option.{same_Some}
 use Rattle.firefly_outside.specs.Trees.{Contents}
-use Rattle.firefly.specs.Looks.{Look, look_at, looks_of, AllTell, AreOwn, IsSameTree, KeepTrees, Among, reported_by}
+use Rattle.firefly.specs.Looks.{Look, look_at, looks_of, AllShow, AreOwn, IsSameTree, KeepTrees, Among, reported_by}
 
 -- one of the trees, at its place
 pub among_at : (xs ys : List (Option Look)) → KeepTrees xs ys → (k : ℕ) (a b : Look) → slice_index_or xs k None ≡ Some a → slice_index_or ys k None ≡ Some b → Among xs ys a b
@@ -24,10 +24,10 @@ place_of (Some x ∷ xs) (Some y ∷ ys) a b (inl h) = (zero, ap (λ l. Some l) 
 place_of (Some x ∷ xs) (Some y ∷ ys) a b (inr h) = let r = place_of xs ys a b h in (suc r.0, r.1, r.2)
 
 -- what the first tells, all tell
-pub first_tells : (o : Option Contents) (xs : List (Option Look)) → AllTell o xs → 0 < length xs → reported_by xs ≡ o
-first_tells o [] h low = absurd (omega arith)
-first_tells o (None ∷ xs) h low = absurd h
-first_tells o (Some x ∷ xs) h low = h.0
+pub first_shows : (o : Option Contents) (xs : List (Option Look)) → AllShow o xs → 0 < length xs → reported_by xs ≡ o
+first_shows o [] h low = absurd (omega arith)
+first_shows o (None ∷ xs) h low = absurd h
+first_shows o (Some x ∷ xs) h low = h.0
 
 none_some : {A : Type 0} (a : A) → None ≡ Some a → ⊥
 none_some a e = cc
@@ -53,13 +53,13 @@ module _ {S : Type 0} (look : S → Look) where
   looks_many [] = refl
   looks_many (t ∷ ts) = let h = looks_many ts in omega arith
 
-  pub all_tell : (o : Option Contents) (trees : List (Option S)) → AllTell o (looks_of look trees) → (k : ℕ) (s : S) → slice_index_or trees k None ≡ Some s → (look s).reported ≡ o
-  all_tell o [] h k s e = absurd (cc)
-  all_tell o (None ∷ ts) h k s e = absurd h
-  all_tell o (Some t ∷ ts) h zero s e = ap (λ (x : S). (look x).reported) (sym (same_Some t s e)) ∙ h.0
-  all_tell o (Some t ∷ ts) h (suc k) s e = all_tell o ts h.1 k s e
+  pub all_show : (o : Option Contents) (trees : List (Option S)) → AllShow o (looks_of look trees) → (k : ℕ) (s : S) → slice_index_or trees k None ≡ Some s → (look s).reported ≡ o
+  all_show o [] h k s e = absurd (cc)
+  all_show o (None ∷ ts) h k s e = absurd h
+  all_show o (Some t ∷ ts) h zero s e = ap (λ (x : S). (look x).reported) (sym (same_Some t s e)) ∙ h.0
+  all_show o (Some t ∷ ts) h (suc k) s e = all_show o ts h.1 k s e
 
-  pub there : (o : Option Contents) (trees : List (Option S)) → AllTell o (looks_of look trees) → (k : ℕ) → k < length trees → (s : S) × (slice_index_or trees k None ≡ Some s)
+  pub there : (o : Option Contents) (trees : List (Option S)) → AllShow o (looks_of look trees) → (k : ℕ) → k < length trees → (s : S) × (slice_index_or trees k None ≡ Some s)
   there o [] h k low = absurd (omega arith)
   there o (None ∷ ts) h k low = absurd h
   there o (Some t ∷ ts) h zero low = (t, refl)
@@ -73,14 +73,14 @@ module _ {S : Type 0} (look : S → Look) where
   kept_one x r None xs ts e same rest = absurd (cc)
   kept_one x r (Some z) xs ts e same rest = (subst (λ (v : S). IsSameTree (look x) (look v)) (sym (same_Some z r e)) same, rest)
 
-  pub keeps : (o : Option Contents) (old new : List (Option S)) → AllTell o (looks_of look old) → length new ≡ length old → Back old new → KeepTrees (looks_of look old) (looks_of look new)
-  keeps o [] [] tell many back = tt
-  keeps o [] (y ∷ ys) tell many back = absurd (omega arith)
-  keeps o (None ∷ xs) ys tell many back = absurd tell
-  keeps o (Some x ∷ xs) [] tell many back = absurd (omega arith)
-  keeps o (Some x ∷ xs) (y ∷ ys) tell many back =
+  pub keeps : (o : Option Contents) (old new : List (Option S)) → AllShow o (looks_of look old) → length new ≡ length old → Back old new → KeepTrees (looks_of look old) (looks_of look new)
+  keeps o [] [] shows many back = tt
+  keeps o [] (y ∷ ys) shows many back = absurd (omega arith)
+  keeps o (None ∷ xs) ys shows many back = absurd shows
+  keeps o (Some x ∷ xs) [] shows many back = absurd (omega arith)
+  keeps o (Some x ∷ xs) (y ∷ ys) shows many back =
       let h = back 0 x refl in
-      kept_one x h.0 y xs ys h.1 h.2 (keeps o xs ys tell.1 (omega arith) (λ k s e. back (suc k) s e))
+      kept_one x h.0 y xs ys h.1 h.2 (keeps o xs ys shows.1 (omega arith) (λ k s e. back (suc k) s e))
 
   -- what stands at each place came back there
   abbrev pub Owned : List (Option S) → List (Option S) → Type 0

@@ -1,9 +1,9 @@
 -- Trees before a call and after it.
 use Rattle.std.proofs.Common.{◌≡◌, List, [], ◌∷◌, ◌++◌, refl, arith, Option, Some, None}
 use Rattle.firefly_outside.specs.Trees.{Contents}
-use Rattle.firefly.specs.Looks.{Look, looks_of, AllTell, Agree, AreOwn, KeepTrees, NoneFailed}
+use Rattle.firefly.specs.Looks.{Look, looks_of, AllShow, Agree, AreOwn, KeepTrees, NoneFailed}
 
-kept : (reported : Option Contents) (ts : List (Option Look)) → AllTell reported ts → KeepTrees ts ts
+kept : (reported : Option Contents) (ts : List (Option Look)) → AllShow reported ts → KeepTrees ts ts
 kept reported [] h = tt
 kept reported (None ∷ ts) h = absurd h
 kept reported (Some l ∷ ts) h = (record { reported = refl; weak = refl; count = omega arith }, kept reported ts h.1)
@@ -27,10 +27,10 @@ own-same ts h = kept_own ts ts (kept-same ts h)
 
 module _ {S : Type 0} (look : S → Look) (reported : Option Contents) (x : S) (is : (look x).reported ≡ reported) where
   -- one more tree that tells the same
-  pub tells-more : (trees : List (Option S)) → AllTell reported (looks_of look trees) → AllTell reported (looks_of look (trees ++ Some x ∷ []))
-  tells-more [] h = (is, tt)
-  tells-more (None ∷ ts) h = absurd h
-  tells-more (Some y ∷ ts) h = (h.0, tells-more ts h.1)
+  pub shows-more : (trees : List (Option S)) → AllShow reported (looks_of look trees) → AllShow reported (looks_of look (trees ++ Some x ∷ []))
+  shows-more [] h = (is, tt)
+  shows-more (None ∷ ts) h = absurd h
+  shows-more (Some y ∷ ts) h = (h.0, shows-more ts h.1)
 
 -- one more tree that hasn't failed
 pub fresh-more : {S : Type 0} (look : S → Look) (x : S) → (look x).faults ≡ 0 → (trees : List (Option S)) → NoneFailed (looks_of look trees) → NoneFailed (looks_of look (trees ++ Some x ∷ []))

@@ -22,14 +22,14 @@ looks_of look [] = []
 looks_of look (t ∷ ts) = look_at look t ∷ looks_of look ts
 
 -- each place has a tree, with these contents
-abbrev pub AllTell : Option Contents → List (Option Look) → Type 0
-AllTell reported [] = Unit {0}
-AllTell reported (None ∷ ts) = ⊥
-AllTell reported (Some l ∷ ts) = (l.reported ≡ reported) × AllTell reported ts
+abbrev pub AllShow : Option Contents → List (Option Look) → Type 0
+AllShow reported [] = Unit {0}
+AllShow reported (None ∷ ts) = ⊥
+AllShow reported (Some l ∷ ts) = (l.reported ≡ reported) × AllShow reported ts
 
 -- each place has a tree, and all have the same contents, or those of none are known
 abbrev pub Agree : List (Option Look) → Type 0
-Agree ts = (reported : Option Contents) × AllTell reported ts
+Agree ts = (reported : Option Contents) × AllShow reported ts
 
 -- the contents of the first of them
 abbrev pub reported_by : List (Option Look) → Option Contents

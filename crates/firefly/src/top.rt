@@ -15,7 +15,7 @@ use command_endings::{Ending, Status, ends};
 use command_find::run_find;
 use command_jobs::run_jobs_command;
 use command_line::{Command, WordsFault, read_words};
-use command_rounds::write_rounds;
+use command_rounds::run_rounds;
 use firefly_outside::{Sink, Source, Tree};
 use std::alloc::Global;
 use std::sync::Wait;
@@ -62,7 +62,7 @@ pub fn firefly<R: Threads + Wait + Sync, S: Tree, I: Source, O: Sink, N: Sink>(
         Ok(Command::Find(tokens)) => run_find(alloc, tokens, input, out, notes),
         Ok(Command::Order) => run_order(input, out, notes),
         Ok(Command::Rounds { threads, rounds }) => {
-            write_rounds(rt, alloc, threads, rounds, out, notes)
+            run_rounds(rt, alloc, threads, rounds, out, notes)
         }
         Err(WordsFault::Usage) => ends(notes, Ending::Usage),
         Err(WordsFault::Memory) => ends(notes, Ending::Memory),

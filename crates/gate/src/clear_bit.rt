@@ -6,7 +6,7 @@ ghost use Rattle.nub_rule.specs.declared.view.Wait.{Wait as Waiting};
 ghost use Rattle.nub_rule.specs.declared.view.WaitBit.TheVariants.{Closing};
 ghost use Rattle.nub_rule.specs.Known.{Makes, MayGive, PicksShare, learnt, recorded};
 ghost use Rattle.nub_rule.specs.Objects.{object_of, HasObject, IsGate};
-ghost use Rattle.nub_rule.specs.Parts.{MayTell, made};
+ghost use Rattle.nub_rule.specs.Parts.{MayRecord, made};
 ghost use Rattle.nub_rule.specs.Plays.{opened};
 ghost use Rattle.nub.specs.Rest.{HasStored, IsOutside};
 
@@ -186,7 +186,7 @@ fn clear_gate<U: Uses, C: Change<U>>(p: &Package<U>, me: &mut Thread<U>, at: Obj
     requires named { HasObject p.now.layout at }
     requires outside { (me.old.wait ≡ None) × (me.old.stand ≡ None) }
     requires may { MayFree U.allows C.after at me.old }
-    requires pen { MayTell p.now.traced me.old.life me.old.pen }
+    requires pen { MayRecord p.now.traced me.old.life me.old.pen }
     ensures event { Makes (clears at me.old.number) me.old me.new }
     ensures rest { me.new ≡ record me.old {
       part = record (learnt me.old.part me.new.part) {

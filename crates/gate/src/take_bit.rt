@@ -7,7 +7,7 @@ ghost use Rattle.nub_rule.specs.declared.view.Wait.{Wait as Waiting};
 ghost use Rattle.nub_rule.specs.declared.view.WaitBit.TheVariants.{Open};
 ghost use Rattle.nub_rule.specs.Known.{Makes, StandsAs, learnt, recorded};
 ghost use Rattle.nub_rule.specs.Objects.{object_of, HasObject, IsGate};
-ghost use Rattle.nub_rule.specs.Parts.{IsAlerted, MayTell, made, HasTested};
+ghost use Rattle.nub_rule.specs.Parts.{IsAlerted, MayRecord, made, HasTested};
 ghost use Rattle.nub_rule.specs.Plays.{quieted};
 ghost use Rattle.nub.specs.Rest.{HasStored, IsOutside};
 
@@ -157,7 +157,7 @@ fn try_gate<U: Uses>(p: &Package<U>, me: &mut Thread<U>, at: Object, e: Event) -
     requires named { HasObject p.now.layout at }
     requires outside { (me.old.spin ≡ None) × (me.old.stand ≡ None) }
     requires may { MayMake at me.old.number me.old.wait e }
-    requires pen { MayTell p.now.traced me.old.life me.old.pen }
+    requires pen { MayRecord p.now.traced me.old.life me.old.pen }
     ensures lost { result ≢ 0 → me.new ≡ record me.old {
       part = record me.old.part
           { failed = object_of at ∷ me.old.failed; turns = without (object_of at) me.old.turns };

@@ -8,7 +8,7 @@ ghost use Rattle.index_text.specs.Steps.{Gives, heading_of};
 use crate::fault::Stop;
 use crate::key::key;
 use crate::path::path;
-use crate::token::{capped_numeral, figure, word};
+use crate::token::{capped_numeral, number_u64, word};
 use std::alloc::AllocError;
 
 /// The prefix of a row with its number of files as far as a counter goes, or a skipped path.
@@ -89,11 +89,11 @@ pub fn hit_prefix(bytes: &[u8]) -> Result<(u64, u64, &[u8]), Stop>
         Ok(rest) => rest,
         Err(stop) => return Err(stop),
     };
-    let (count, rest) = match figure(rest, b' ') {
+    let (count, rest) = match number_u64(rest, b' ') {
         Ok(read) => read,
         Err(stop) => return Err(stop),
     };
-    match figure(rest, b' ') {
+    match number_u64(rest, b' ') {
         Ok((line, rest)) => Ok((count, line, rest)),
         Err(stop) => Err(stop),
     }

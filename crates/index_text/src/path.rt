@@ -95,7 +95,7 @@ fn good(last: Option<&[u8]>, path: &[u8]) -> bool
 
 // Whether it is a path above the last one with these bytes after it.
 fn completes(last: Option<&[u8]>, prefix: &mut Vec<u8>, more: &[u8]) -> Result<bool, AllocError>
-    ensures tells { IfOk result (λ b. b ≡ is_path (option_copied last.entry) (Some (prefix.old.items ++ more.now))) }
+    ensures shows { IfOk result (λ b. b ≡ is_path (option_copied last.entry) (Some (prefix.old.items ++ more.now))) }
     ensures kept { OnOk result (prefix.new.items ≡ prefix.old.items) }
 {
     let start = prefix.len();

@@ -19,7 +19,7 @@ pub fn word<'b>(bytes: &'b [u8], word: &[u8]) -> Result<&'b [u8], Stop>
 }
 
 /// Reads a number from 1 on that fits 64 bits, and the byte that stops it.
-pub fn figure(bytes: &[u8], stop: u8) -> Result<(u64, &[u8]), Stop>
+pub fn number_u64(bytes: &[u8], stop: u8) -> Result<(u64, &[u8]), Stop>
     ensures { Gives (λ x. (x.0, x.1.now)) result (number_at 1 (2 ^ 64) stop bytes.now) }
 {
     match exact::long_number(bytes, 1, stop) {

@@ -17,7 +17,7 @@ use Rattle.index_findings.specs.declared.findings.Visit.{Visit}
 use Rattle.index_rule.specs.declared.value.IndexValue.{IndexValue}
 use Rattle.index_rule.specs.Shares.{Share}
 use Rattle.indexer.specs.Once.{EachOnce, IsEachOnce, IsWorkedOnce}
-use Rattle.indexer.specs.Says.{AllTell, answer_of}
+use Rattle.indexer.specs.Says.{AllShow, answer_of}
 use Rattle.indexer.proofs.OnceLaws.{all_listed, all_once, since_all}
 
 not_memory : (piece : Index) → Done piece ≡ Memory → ⊥
@@ -56,8 +56,8 @@ module _ {S : Type 0} (tree : S → Option Contents) (calls : S → Calls) (root
           let b = same_Some last r (sym is_last ∙ is) in
           ap (λ (x : S). of (calls x)) (sym b) ∙ (e ∙ ap (λ (x : S). of (calls x) ++ more) a)
 
-  module _ (o : Option Contents) (own : S) (is_own : slice_index_or old n None ≡ Some own) (tell : AllTell tree o old)
-      (worked : (t : Contents) → AllTell tree (Some t) old → list_any (λ f. f.lost) findings ≡ false → IsWorkedOnce calls root n old mid (flat_map (λ f. f.visits.items) findings) (flat_map (λ f. f.pieces.items) findings))
+  module _ (o : Option Contents) (own : S) (is_own : slice_index_or old n None ≡ Some own) (shows : AllShow tree o old)
+      (worked : (t : Contents) → AllShow tree (Some t) old → list_any (λ f. f.lost) findings ≡ false → IsWorkedOnce calls root n old mid (flat_map (λ f. f.visits.items) findings) (flat_map (λ f. f.pieces.items) findings))
       (visits : List Visit) (pieces : List Index) (lost : Bool) (is_visits : visits ≡ flat_map (λ f. f.visits.items) findings) (is_pieces : pieces ≡ flat_map (λ f. f.pieces.items) findings) (is_lost : lost ≡ list_any (λ f. f.lost) findings)
       (above : (i : ℕ) (d : Option S) → n ≤ i → slice_index_or mid i d ≡ slice_index_or old i d)
       (others : (i : ℕ) (d : Option S) → (i ≡ n → ⊥) → slice_index_or new i d ≡ slice_index_or mid i d) where
@@ -65,9 +65,9 @@ module _ {S : Type 0} (tree : S → Option Contents) (calls : S → Calls) (root
         → (last : S) → slice_index_or new n None ≡ Some last → (q : Option Contents) → o ≡ q → IfSome q (λ t. IsEachOnce calls t root n old new)
     done_once piece memory rest last is_last None e = tt
     done_once piece memory rest last is_last (Some t) e = by_lost lost piece memory (λ kept.
-        let tells : AllTell tree (Some t) old = subst (λ (q : Option Contents). AllTell tree q old) e tell in
-        let here = subst (λ (q : Option Contents). IfSome q (λ t. CallsRest t root visits pieces (calls own) (calls last) (Done piece))) (tells n own is_own) (rest own last (above n None (omega arith) ∙ is_own) is_last) in
-        let did = worked t tells (sym is_lost ∙ kept) in
+        let shows_it : AllShow tree (Some t) old = subst (λ (q : Option Contents). AllShow tree q old) e shows in
+        let here = subst (λ (q : Option Contents). IfSome q (λ t. CallsRest t root visits pieces (calls own) (calls last) (Done piece))) (shows_it n own is_own) (rest own last (above n None (omega arith) ∙ is_own) is_last) in
+        let did = worked t shows_it (sym is_lost ∙ kept) in
         both t own is_own visits pieces piece
         (subst (λ (vs : List Visit). IsWorkedOnce calls root n old mid vs pieces) (sym is_visits) (subst (λ (ps : List Index). IsWorkedOnce calls root n old mid (flat_map (λ (f : Findings). f.visits.items) findings) ps) (sym is_pieces) did))
         above others last is_last here)

@@ -20,7 +20,7 @@ use Rattle.index_rule.specs.declared.value.IndexValue.{IndexValue}
 use Rattle.indexer.specs.Jobs.{GivesTree, HasWorked, IsFresh, kind_at, tree_at}
 use Rattle.indexer.specs.Pieces.{IsPieceItem, AllPut, AllTaken}
 use Rattle.indexer.specs.Runs.{IsFoundBy}
-use Rattle.indexer.specs.Says.{AllTell}
+use Rattle.indexer.specs.Says.{AllShow}
 use Rattle.indexer.specs.Turns.{Worker, Run, ComesBack, HasCalled}
 use Rattle.index_rule.specs.Closing.{taken_fit}
 use Rattle.index_rule.specs.Shares.{Share, blank}
@@ -102,10 +102,10 @@ module _ {S : Type 0} (tree : S → Option Contents) (weak : S → List Path) (f
   -- with pieces of the tree that all tell
   gives_back : (o : Option Contents) (kind : Kind) (a b : Worker) (f : Findings) (given got : Option S) → ((s : S) → given ≡ Some s → tree s ≡ o) → GivesTree tree weak faults calls root p kind a b f given got
       → ComesBack o root f.pieces.items p a b
-  gives_back o kind a b f None None tells h = (h.0 o).back
-  gives_back o kind a b f (Some u) (Some v) tells h = subst (λ (q : Option Contents). ComesBack q root f.pieces.items p a b) (tells u refl) h.2.back
-  gives_back o kind a b f None (Some v) tells h = absurd h
-  gives_back o kind a b f (Some u) None tells h = absurd h
+  gives_back o kind a b f None None shows_it h = (h.0 o).back
+  gives_back o kind a b f (Some u) (Some v) shows_it h = subst (λ (q : Option Contents). ComesBack q root f.pieces.items p a b) (shows_it u refl) h.2.back
+  gives_back o kind a b f None (Some v) shows_it h = absurd h
+  gives_back o kind a b f (Some u) None shows_it h = absurd h
 
   -- the caller and the workers that came back may close the package
   pub all_done : (walkers n : ℕ) (threads : List Worker) (caller last : Worker) (back : List Worker) (findings : List Findings) (old new : List (Option S)) → Each (IsFirst p no_share) threads
@@ -140,10 +140,10 @@ module _ {S : Type 0} (tree : S → Option Contents) (weak : S → List Path) (f
       }
 
   module _ (o : Option Contents) (walkers n : ℕ) (threads : List Worker) (caller last : Worker) (back : List Worker) (findings : List Findings) (old new : List (Option S))
-      (tell : AllTell tree o old) (firsts : Each (IsFirst p no_share) threads) (own : get_elem? threads 0 ≡ some caller) (called : HasCalled o root [] p 0 0 caller last)
+      (shows : AllShow tree o old) (firsts : Each (IsFirst p no_share) threads) (own : get_elem? threads 0 ≡ some caller) (called : HasCalled o root [] p 0 0 caller last)
       (worked : Each (HasWorked tree weak faults calls root p walkers n (remove threads 0) findings old new) back) where
     back_at : (k : ℕ) (t : Worker) → (e : get_elem? back k ≡ some t) → let w = worked k t e in ComesBack o root w.found.pieces.items p w.was t
-    back_at k t e = let w = worked k t e in gives_back o (kind_at walkers k) w.was t w.found (tree_at n old k) (tree_at n new k) (λ s is. tell k s (tree_of n old k s is)) w.gives
+    back_at k t e = let w = worked k t e in gives_back o (kind_at walkers k) w.was t w.found (tree_at n old k) (tree_at n new k) (λ s is. shows k s (tree_of n old k s is)) w.gives
 
     -- whatever share put what at the buffer of pieces
     all_puts : (k : ℕ) (t : Worker) → get_elem? (last ∷ back) k ≡ some t → (s : Share) → t.share ≡ Some s → AllPut (IsPieceItem o root) 2 s

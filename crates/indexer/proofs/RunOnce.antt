@@ -24,7 +24,7 @@ use Rattle.indexer.specs.Gets.{Grows, Makes, OfShare, nothing}
 use Rattle.indexer.specs.Hands.{HasRead, HasShare, IsLeft, IsStill}
 use Rattle.indexer.specs.Jobs.{GivesTree, HasWorked, kind_at, tree_at}
 use Rattle.indexer.specs.Once.{IsWorkedOnce, joined}
-use Rattle.indexer.specs.Says.{AllTell}
+use Rattle.indexer.specs.Says.{AllShow}
 use Rattle.indexer.specs.Turns.{Worker, Run}
 use Rattle.indexer.proofs.CrewBack.{from_map}
 use Rattle.indexer.proofs.OnceLaws.{AreChosen, at_take, chosen, joined-take}
@@ -76,9 +76,9 @@ module _ {S : Type 0} (tree : S → Option Contents) (weak : S → List Path) (f
 
   gives_reads : (kind : Kind) (a b : Worker) (f : Findings) (t : Contents) (given got : Option S) → f.lost ≡ false → ((s : S) → given ≡ Some s → tree s ≡ Some t) → GivesTree tree weak faults calls root p kind a b f given got
       → Reads f b t given got
-  gives_reads kind a b f t None None kept tells h = record { files = []; left = h.3; made = λ s r e g. absurd (cc); none = λ e. (refl, ap dirs_listed h.1) }
-  gives_reads kind a b f t (Some u) (Some v) kept tells h =
-      let reported = subst (λ (o : Option Contents). IfSome o (λ t. ((calls v).files_read ≡ (calls u).files_read ++ h.3.0) × (f.lost ≡ false → (calls v).listed ≡ (calls u).listed ++ dirs_listed f.visits.items))) (tells u refl) h.3.2 in
+  gives_reads kind a b f t None None kept shows_it h = record { files = []; left = h.3; made = λ s r e g. absurd (cc); none = λ e. (refl, ap dirs_listed h.1) }
+  gives_reads kind a b f t (Some u) (Some v) kept shows_it h =
+      let reported = subst (λ (o : Option Contents). IfSome o (λ t. ((calls v).files_read ≡ (calls u).files_read ++ h.3.0) × (f.lost ≡ false → (calls v).listed ≡ (calls u).listed ++ dirs_listed f.visits.items))) (shows_it u refl) h.3.2 in
       record {
         files = h.3.0;
         left = h.3.1;
@@ -87,8 +87,8 @@ module _ {S : Type 0} (tree : S → Option Contents) (weak : S → List Path) (f
             (subst (λ (x : S). ((calls x).files_read ≡ (calls u).files_read ++ h.3.0) × ((calls x).listed ≡ (calls u).listed ++ dirs_listed f.visits.items)) (same_Some v r g) (reported.0, reported.1 kept));
         none = λ e. absurd (cc);
       }
-  gives_reads kind a b f t None (Some v) kept tells h = absurd h
-  gives_reads kind a b f t (Some u) None kept tells h = absurd h
+  gives_reads kind a b f t None (Some v) kept shows_it h = absurd h
+  gives_reads kind a b f t (Some u) None kept shows_it h = absurd h
 
   gives_end : (kind : Kind) (a b : Worker) (f : Findings) (given got : Option S) → given ≡ None → f.lost ≡ false → GivesTree tree weak faults calls root p kind a b f given got
       → OfShare b (λ u. (part_of u.notes 2).seen_end ≡ true)
@@ -163,10 +163,10 @@ module _ {S : Type 0} (tree : S → Option Contents) (weak : S → List Path) (f
     pub all_found : AreFound p.world (visits_of findings) (pieces_of findings)
     all_found = pieces_found p.world values keeps.shares keeps.kept big findings came_by whose
 
-    module _ (t : Contents) (tell : AllTell tree (Some t) old) (kept : list_any (λ f. f.lost) findings ≡ false) (merger : n < length findings) where
+    module _ (t : Contents) (shows : AllShow tree (Some t) old) (kept : list_any (λ f. f.lost) findings ≡ false) (merger : n < length findings) where
       reads_at : (k : ℕ) (f : Findings) (e : get_elem? findings k ≡ some f) → let w = at_place k f e in Reads f w.thread t (tree_at n old k) (tree_at n new k)
       reads_at k f e = let w = at_place k f e in
-          gives_reads (kind_at walkers k) w.was w.thread f t (tree_at n old k) (tree_at n new k) (none_lost findings kept k f e) (λ s is. tell k s (tree_of n old k s is)) w.gives
+          gives_reads (kind_at walkers k) w.was w.thread f t (tree_at n old k) (tree_at n new k) (none_lost findings kept k f e) (λ s is. shows k s (tree_of n old k s is)) w.gives
 
       -- these files were read by the worker at the place
       record IsReading (k : ℕ) (files : List Path) : Type 0 where

@@ -22,7 +22,7 @@ use Rattle.indexer.specs.declared.plan.Plan.{Plan}
 use Rattle.index_rule.specs.declared.value.IndexValue.{IndexValue}
 use Rattle.indexer.specs.Jobs.{GivesTree, kind_at, tree_at}
 use Rattle.indexer.specs.Runs.{IsFoundBy}
-use Rattle.indexer.specs.Says.{AllTell, IndexSays, IsRunOf, WalkSays, answer_of}
+use Rattle.indexer.specs.Says.{AllShow, IndexSays, IsRunOf, WalkSays, answer_of}
 use Rattle.indexer.specs.Turns.{Worker, Run}
 use Rattle.index_rule.specs.Shares.{Share}
 use Rattle.indexer.specs.Walks.{IsVisit}
@@ -31,17 +31,17 @@ use Rattle.indexer.proofs.RunLaws.{tree_of}
 module _ {S : Type 0} (tree : S → Option Contents) (weak : S → List Path) (faults : S → ℕ) (calls : S → Calls) (root : Path) where
   gives_visits : (p : Run) (kind : Kind) (a b : Worker) (f : Findings) (given got : Option S) (o : Option Contents) → GivesTree tree weak faults calls root p kind a b f given got → ((s : S) → given ≡ Some s → tree s ≡ o)
       → All (IsVisit o) f.visits.items
-  gives_visits p kind a b f None None o h tells = subst (All (IsVisit o)) (sym h.1) (All-nil (IsVisit o))
-  gives_visits p kind a b f (Some s) (Some r) o h tells = subst (λ (q : Option Contents). All (IsVisit q) f.visits.items) (tells s refl) h.2.each
-  gives_visits p kind a b f None (Some r) o h tells = absurd h
-  gives_visits p kind a b f (Some s) None o h tells = absurd h
+  gives_visits p kind a b f None None o h shows_it = subst (All (IsVisit o)) (sym h.1) (All-nil (IsVisit o))
+  gives_visits p kind a b f (Some s) (Some r) o h shows_it = subst (λ (q : Option Contents). All (IsVisit q) f.visits.items) (shows_it s refl) h.2.each
+  gives_visits p kind a b f None (Some r) o h shows_it = absurd h
+  gives_visits p kind a b f (Some s) None o h shows_it = absurd h
 
   -- each listing is one of the told tree
-  pub all_visits : (walkers n : ℕ) (threads : List Worker) (old new : List (Option S)) (findings : List Findings) (o : Option Contents) → AllTell tree o old
+  pub all_visits : (walkers n : ℕ) (threads : List Worker) (old new : List (Option S)) (findings : List Findings) (o : Option Contents) → AllShow tree o old
       → Each (IsFoundBy tree weak faults calls root walkers n threads old new) findings → All (IsVisit o) (flat_map (λ f. f.visits.items) findings)
-  all_visits walkers n threads old new findings o tell found = flat findings (λ k f at.
+  all_visits walkers n threads old new findings o shows found = flat findings (λ k f at.
       let w = found k f at in
-      gives_visits w.run (kind_at walkers k) w.first w.last f (tree_at n old k) (tree_at n new k) o w.gives (λ s e. tell k s (tree_of n old k s e)))
+      gives_visits w.run (kind_at walkers k) w.first w.last f (tree_at n old k) (tree_at n new k) o w.gives (λ s e. shows k s (tree_of n old k s e)))
     where
       flat : (fs : List Findings) → Each (λ k f. All (IsVisit o) f.visits.items) fs → All (IsVisit o) (flat_map (λ f. f.visits.items) fs)
       flat [] h = All-nil (IsVisit o)

@@ -27,7 +27,7 @@ use Rattle.index_findings.proofs.ReportedLaws.{reported_on, reported_both}
 use Rattle.index_rule.specs.declared.value.IndexValue.{IndexValue}
 use Rattle.indexer.specs.Jobs.{GivesTree, kind_at, tree_at}
 use Rattle.indexer.specs.Runs.{IsFoundBy}
-use Rattle.indexer.specs.Says.{AllTell, OnlyCalls, IsBack, AreBack, AreLeft, IsUsedBy, AreUsed, HasCause, IsCausedAt, FailsSince, TreesAfter, answer_of}
+use Rattle.indexer.specs.Says.{AllShow, OnlyCalls, IsBack, AreBack, AreLeft, IsUsedBy, AreUsed, HasCause, IsCausedAt, FailsSince, TreesAfter, answer_of}
 use Rattle.indexer.specs.Turns.{Worker, Run, release_count}
 use Rattle.indexer.specs.Walks.{HasDone, FaultCounts, CalledOnly, MayFail, calls_with}
 use Rattle.index_rule.specs.Shares.{Share}
@@ -301,7 +301,7 @@ module _ {S : Type 0} (tree : S → Option Contents) (weak : S → List Path) (f
     },
   )
 
-  module _ (walkers n : ℕ) (threads : List Worker) (findings : List Findings) (old mid new : List (Option S)) (o : Option Contents) (stop : Option ℕ) (tell : AllTell tree o old)
+  module _ (walkers n : ℕ) (threads : List Worker) (findings : List Findings) (old mid new : List (Option S)) (o : Option Contents) (stop : Option ℕ) (shows : AllShow tree o old)
       (found : Each (IsFoundBy tree weak faults calls root walkers n threads old mid) findings) (own : S) (is_own : slice_index_or old n None ≡ Some own)
       (above : (i : ℕ) (d : Option S) → n ≤ i → slice_index_or mid i d ≡ slice_index_or old i d)
       (others : (i : ℕ) (d : Option S) → (i ≡ n → ⊥) → slice_index_or new i d ≡ slice_index_or mid i d) where
@@ -312,7 +312,7 @@ module _ {S : Type 0} (tree : S → Option Contents) (weak : S → List Path) (f
         let f = failed_at w.run (kind_at walkers k.0) w.first w.last k.1 (tree_at n old k.0) (tree_at n mid k.0) fault k.3 w.gives in
         let low : k.0 < n = ltb-true k.0 n (low_by (nat_lt k.0 n) (slice_index_or old k.0 None) f.0 f.2) in
         let was = sym (tree_there n old k.0 low) ∙ f.2 in
-        let under_here = subst (λ (q : Option Contents). IfSome q (λ t. IsUnder t root (kind_of fault) (path_of fault))) (tell n own is_own ∙ sym (tell k.0 f.0 was)) under in
+        let under_here = subst (λ (q : Option Contents). IfSome q (λ t. IsUnder t root (kind_of fault) (path_of fault))) (shows n own is_own ∙ sym (shows k.0 f.0 was)) under in
         record {
           place = k.0;
           s = f.0;
@@ -366,9 +366,9 @@ module _ {S : Type 0} (tree : S → Option Contents) (weak : S → List Path) (f
   trees_after many (TooMany m) ends = back many (TooMany m) ends
   trees_after many Memory ends = are_left tree weak faults calls root walkers n closed.threads findings old mid new stop fault many found above others Memory own is_own ends
 
-  pub has_cause : (o : Option Contents) → AllTell tree o old → (answer : WalkAnswer) → Decides answer → HasCause tree weak faults calls root old new (answer_of answer closed)
-  has_cause o tell (Done piece) ends = tt
-  has_cause o tell (Stopped m) ends = tt
-  has_cause o tell (ReadFault path) ends = caused tree weak faults calls root walkers n closed.threads findings old mid new o stop tell found own is_own above others fault path is_fault ends
-  has_cause o tell (TooMany m) ends = tt
-  has_cause o tell Memory ends = tt
+  pub has_cause : (o : Option Contents) → AllShow tree o old → (answer : WalkAnswer) → Decides answer → HasCause tree weak faults calls root old new (answer_of answer closed)
+  has_cause o shows (Done piece) ends = tt
+  has_cause o shows (Stopped m) ends = tt
+  has_cause o shows (ReadFault path) ends = caused tree weak faults calls root walkers n closed.threads findings old mid new o stop shows found own is_own above others fault path is_fault ends
+  has_cause o shows (TooMany m) ends = tt
+  has_cause o shows Memory ends = tt

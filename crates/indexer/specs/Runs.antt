@@ -17,7 +17,7 @@ use Rattle.indexer.specs.declared.plan.Plan.{Plan}
 use Rattle.index_rule.specs.declared.value.IndexValue.{IndexValue}
 use Rattle.indexer.specs.Jobs.{GivesTree, kind_at, tree_at}
 use Rattle.indexer.specs.Plans.{layout_of}
-use Rattle.indexer.specs.Says.{AllTell}
+use Rattle.indexer.specs.Says.{AllShow}
 use Rattle.indexer.specs.Turns.{Worker, Run}
 use Rattle.index_rule.specs.Shares.{Share}
 
@@ -41,11 +41,11 @@ module _ {S : Type 0} (tree : S → Option Contents) (weak : S → List Path) (f
       pub traced : plan.traced ≡ true → (h : List Event) × (closed.trace ≡ Some h) × IsWhole (layout_of plan) closed.threads h
       pub count : length findings + 1 ≡ (layout_of plan).threads
       pub found : Each (IsFoundBy plan.walkers (plan.walkers + plan.parsers) closed.threads old new) findings
-      pub pieces : (o : Option Contents) → AllTell tree o old → All (IsFilesPiece o root) (flat_map (λ f. f.pieces.items) findings)
+      pub pieces : (o : Option Contents) → AllShow tree o old → All (IsFilesPiece o root) (flat_map (λ f. f.pieces.items) findings)
       pub visits : AreVisits root (flat_map (λ f. f.visits.items) findings)
       pub apart : AreApart (flat_map (λ f. f.pieces.items) findings)
       pub covered : AreFound root (flat_map (λ f. f.visits.items) findings) (flat_map (λ f. f.pieces.items) findings)
-      pub once : (t : Contents) → AllTell tree (Some t) old → list_any (λ f. f.lost) findings ≡ false
+      pub once : (t : Contents) → AllShow tree (Some t) old → list_any (λ f. f.lost) findings ≡ false
           → IsWorkedOnce calls root (plan.walkers + plan.parsers) old new (flat_map (λ f. f.visits.items) findings)
           (flat_map (λ f. f.pieces.items) findings)
       pub others : (i : ℕ) (d : Option S) → plan.walkers + plan.parsers ≤ i → slice_index_or new i d ≡ slice_index_or old i d

@@ -23,8 +23,8 @@ use Rattle.indexer.specs.Turns.{Worker, release_count}
 use Rattle.index_rule.specs.Shares.{Share}
 
 -- all trees have the contents o, or those of none are known
-abbrev pub AllTell : {S : Type 0} → (S → Option Contents) → Option Contents → List (Option S) → Type 0
-AllTell {S} tree o trees = (k : ℕ) (s : S) → slice_index_or trees k None ≡ Some s → tree s ≡ o
+abbrev pub AllShow : {S : Type 0} → (S → Option Contents) → Option Contents → List (Option S) → Type 0
+AllShow {S} tree o trees = (k : ℕ) (s : S) → slice_index_or trees k None ≡ Some s → tree s ≡ o
 
 -- one more than are allowed
 abbrev pub IsStop : Option ℕ → ℕ → Type 0

@@ -21,8 +21,8 @@ IsUnstopped i = HasStop i.batch.slots.items → ⊥
 
 -- no batch has a job that gave Stop
 -- or the last one alone has, and the thread's last events are its alerts of all others
-abbrev pub TellsStop : {J : Type 0} → ℕ → ℕ → List (Item (Batch J)) → List Event → Type 0
-TellsStop {J} n threads items mine =
+abbrev pub ReportsStop : {J : Type 0} → ℕ → ℕ → List (Item (Batch J)) → List Event → Type 0
+ReportsStop {J} n threads items mine =
     AllByRecursion IsUnstopped items
     ⊎ ((before : List (Item (Batch J))) × (last : Item (Batch J)) × (es : List Event) × AllByRecursion IsUnstopped before
     × (items ≡ before ++ last ∷ []) × (mine ≡ es ++ alerts_by n threads))
@@ -31,4 +31,4 @@ TellsStop {J} n threads items mine =
 pub record HasEndedWork {J : Type 0} (state : J → List ℕ) (gives : J → Work) (next : J → List ℕ) (p : Shape (Unit {0})) (n : ℕ)
     (items : List (Item (Batch J))) (t : Worker (Batch J)) : Type 0 where
   pub worked : HasWorked (MayBeWorked state gives next) p n items t
-  pub stop : TellsStop n p.layout.threads items t.mine
+  pub stop : ReportsStop n p.layout.threads items t.mine

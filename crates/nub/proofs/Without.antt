@@ -9,7 +9,7 @@ use Rattle.nub_rule.specs.Items.{Small}
 use Rattle.std.proofs.Common.{◌<◌, ◌≤◌, None, Some, Option as Opt, ⊎_elim, rules}
 use Rattle.std.proofs.lemmas.Bool.{cases_lt}
 use Rattle.nub_rule.specs.declared.view.Pen.TheVariants.{No, Read}
-use Rattle.nub_rule.specs.Parts.{MayTell}
+use Rattle.nub_rule.specs.Parts.{MayRecord}
 use Rattle.nub_rule.specs.Known.{Known, Makes}
 use Rattle.nub_rule.specs.Stored.{ComesNext}
 use Rattle.nub.specs.Rest.{HasStored}
@@ -73,7 +73,7 @@ module _ {T H W : Type 0} where
       )
 
   -- an event was made with the pen between a and d, and stored
-  pub stored_by : (traced : Bool) (a b c d : Known T H W) (e : Event) → b ≡ record a { part = record a.part { pen = b.pen }; next = b.next } → MayTell traced b.life b.pen → (traced ≡ true → b.pen ≡ Read b.next) → Makes e b c → c.next ≡ b.next → c.entries ≡ b.entries → c.lost ≡ b.lost
+  pub stored_by : (traced : Bool) (a b c d : Known T H W) (e : Event) → b ≡ record a { part = record a.part { pen = b.pen }; next = b.next } → MayRecord traced b.life b.pen → (traced ≡ true → b.pen ≡ Read b.next) → Makes e b c → c.next ≡ b.next → c.entries ≡ b.entries → c.lost ≡ b.lost
       → d ≡ record c { part = record c.part { pen = No }; entries = d.entries; lost = d.lost }
       → ((x : Event) → Some e ≡ Some x → traced ≡ true → d.lost ≡ false → (c.lost ≡ false) × (d.entries ≡ c.entries ++ record { number = c.next; event = x } ∷ []))
       → HasStored traced a → HasStored traced d

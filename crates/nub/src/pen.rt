@@ -4,7 +4,7 @@ ghost use Rattle.larch_actions.specs.declared.event.Event.{Event};
 ghost use Rattle.larch_actions.specs.declared.event.Life.TheVariants.{Live};
 ghost use Rattle.nub_rule.specs.declared.view.Pen.TheVariants.{No, Taken, Read, Made};
 ghost use Rattle.nub_rule.specs.Stored.{ComesNext};
-ghost use Rattle.nub_rule.specs.Parts.{MayTell};
+ghost use Rattle.nub_rule.specs.Parts.{MayRecord};
 
 use crossbeam_utils::Backoff;
 use larch_actions::Event;
@@ -21,7 +21,7 @@ pub fn begin_event<U: Uses, R: Wait>(rt: &R, p: &Package<U>, me: &mut Thread<U>)
     requires out { me.old.pen ≡ No }
     requires live { me.old.life ≡ Live }
     ensures pen { me.new ≡ record me.old { part = record me.old.part { pen = me.new.pen }; next = me.new.next } }
-    ensures traced { MayTell p.now.traced me.new.life me.new.pen }
+    ensures traced { MayRecord p.now.traced me.new.life me.new.pen }
     ensures number { p.now.traced ≡ true → me.new.pen ≡ Read me.new.next }
     ensures untraced { p.now.traced ≡ false → me.new ≡ me.old }
 {

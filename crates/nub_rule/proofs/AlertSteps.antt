@@ -24,9 +24,9 @@ use Rattle.nub_rule.specs.declared.view.View.{View}
 use Rattle.nub_rule.specs.declared.view.Kind.TheVariants.{Member}
 use Rattle.nub_rule.specs.Items.{Says, AlertSeen, Core}
 use Rattle.nub_rule.specs.Owed.{IsAsleep, WakeOwed}
-use Rattle.nub_rule.specs.Parts.{IsFound, IsUntested, HasTested, MayTell, alerted_stage, alerted_stand, left_turns, turns_from, pending_of}
+use Rattle.nub_rule.specs.Parts.{IsFound, IsUntested, HasTested, MayRecord, alerted_stage, alerted_stand, left_turns, turns_from, pending_of}
 use Rattle.nub_rule.specs.Places.{most_threads, bit_at, count_at, length_at, alert_at, sem_object, cond_object}
-use Rattle.nub_rule.specs.Plays.{Becomes, Grows, recorded, with_part, alert_event, alert_p_raise_event, test_alert_event, less, read_alert_tells, or_alert_tells, swap_alert_tells, swap_alert_in_p_tells, leave_sem_queue_tells}
+use Rattle.nub_rule.specs.Plays.{Becomes, Grows, recorded, with_part, alert_event, alert_p_raise_event, test_alert_event, less, read_alert_records, or_alert_records, swap_alert_records, swap_alert_in_p_records, leave_sem_queue_records}
 use Rattle.nub_rule.specs.Rule.{IsKept}
 use Rattle.nub_rule.proofs.Apart.{thread-of}
 use Rattle.nub_rule.proofs.Each.{at_within, each-set, put-here, put-else}
@@ -123,7 +123,7 @@ module _ {T H : Type 0} (words : List ℕ) (x : ℕ) (all : List (Part T H)) (n 
 
 module _ {T H W : Type 0} (l : Layout) (traced : Bool) (w : W) (begin : W → ℕ → H) (holds : W → List T → List H → Type 0) where
   -- an event by which the alert word of the thread t becomes x
-  alert-marks : (e : Event) (n t x : ℕ) (b : Bool) (p : Part T H) (saw : Bool) (words : List ℕ) (homes : List (Option (Slot T))) (all : List (Part T H)) (c : Core l traced w holds words homes all) → get_elem? all n ≡ some p → t < most_threads → e.thread.0 ≡ n → IsNamed l e.action → MayTell traced p.life p.pen
+  alert-marks : (e : Event) (n t x : ℕ) (b : Bool) (p : Part T H) (saw : Bool) (words : List ℕ) (homes : List (Option (Slot T))) (all : List (Part T H)) (c : Core l traced w holds words homes all) → get_elem? all n ≡ some p → t < most_threads → e.thread.0 ≡ n → IsNamed l e.action → MayRecord traced p.life p.pen
       → Acts c.spec e (record c.spec { alerts = put c.spec.alerts t b }) → Says x b
       → ((q : Part T H) → q.alerted ≡ saw → get_or (set words (alert_at t) x) (alert_at t) 0 ≡ x → AlertSeen (set words (alert_at t) x) (set all n q))
       → Marked l traced w holds e n (alert_at t) x p (λ z. record (recorded p z e) { alerted = saw }) words homes all
@@ -139,10 +139,10 @@ module _ {T H W : Type 0} (l : Layout) (traced : Bool) (w : W) (begin : W → �
       (λ z. owes-frame c.queue words (set words i x) all n p (after z) at (λ k lo. other words i (bit_at k) x (λ y. omega arith)) refl refl refl c.owes)
       (λ z. begun-same words (set words i x) all n p (after z) at (waits-stay words i x (λ k lo y. omega arith)) refl refl refl c.begun)
 
-  or_alert_at : (slots id t : ℕ) (me : Me (Slot T) (View T H W)) → t < most_threads → t < l.threads → me.0.kind ≡ Member → me.0.part.wait ≡ None → MayTell traced me.0.part.life me.0.part.pen
-      → Allows (IsKept l traced w begin holds) slots id me (alert_at t) (λ x. bit_or x 1) (or_alert_tells (step slots (alert_at t) 1 0 none) me)
+  or_alert_at : (slots id t : ℕ) (me : Me (Slot T) (View T H W)) → t < most_threads → t < l.threads → me.0.kind ≡ Member → me.0.part.wait ≡ None → MayRecord traced me.0.part.life me.0.part.pen
+      → Allows (IsKept l traced w begin holds) slots id me (alert_at t) (λ x. bit_or x 1) (or_alert_records (step slots (alert_at t) 1 0 none) me)
   or_alert_at slots id t me low named kind out may = let v = me.0 in let n = v.number in let p = v.part in let i = alert_at t in let e = alert_event n t in
-      member_steps l traced w begin holds slots id i (λ x. bit_or x 1) v me.1 (λ r q ds. Learns e n p (λ z. record (recorded p z e) { alerted = p.alerted }) q × (ds ≡ me.1)) (or_alert_tells (step slots i 1 0 none) me) kind
+      member_steps l traced w begin holds slots id i (λ x. bit_or x 1) v me.1 (λ r q ds. Learns e n p (λ z. record (recorded p z e) { alerted = p.alerted }) q × (ds ≡ me.1)) (or_alert_records (step slots i 1 0 none) me) kind
       (λ r q ds u. idle-live p q v.child may.0 (ap (λ (z : Part T H). z.life) u.0.2))
       (λ r q ds world u k few is. let same : t ≡ k = thread-of t k low few (omega arith) in subst (λ (k : ℕ). (between : List Event) × Grows n p between (alert_event n k) × Becomes me (recorded p (p.seen ++ between) (alert_event n k)) (with_part v q, ds)) same
       (u.0.0, u.0.1, λ j. (with_part v (u.0.2 j), u.1 j)))
@@ -154,15 +154,15 @@ module _ {T H W : Type 0} (l : Layout) (traced : Bool) (w : W) (begin : W → �
       (m.0, keeps, tt, subst (λ (y : ℕ). Core l traced w holds (set words i y) homes (set all n m.0)) (sym up) m.1, (m.2, refl)))
 
   -- the same at a word that is this place
-  pub or_alert_keeps : (slots id t : ℕ) (me : Me (Slot T) (View T H W)) (i : ℕ) → i ≡ alert_at t → t < most_threads → t < l.threads → me.0.kind ≡ Member → me.0.part.wait ≡ None → MayTell traced me.0.part.life me.0.part.pen
-      → Allows (IsKept l traced w begin holds) slots id me i (λ x. bit_or x 1) (or_alert_tells (step slots i 1 0 none) me)
-  or_alert_keeps slots id t me i word low named kind out may = subst (λ (i : ℕ). Allows (IsKept l traced w begin holds) slots id me i (λ x. bit_or x 1) (or_alert_tells (step slots i 1 0 none) me)) (sym word) (or_alert_at slots id t me low named kind out may)
+  pub or_alert_keeps : (slots id t : ℕ) (me : Me (Slot T) (View T H W)) (i : ℕ) → i ≡ alert_at t → t < most_threads → t < l.threads → me.0.kind ≡ Member → me.0.part.wait ≡ None → MayRecord traced me.0.part.life me.0.part.pen
+      → Allows (IsKept l traced w begin holds) slots id me i (λ x. bit_or x 1) (or_alert_records (step slots i 1 0 none) me)
+  or_alert_keeps slots id t me i word low named kind out may = subst (λ (i : ℕ). Allows (IsKept l traced w begin holds) slots id me i (λ x. bit_or x 1) (or_alert_records (step slots i 1 0 none) me)) (sym word) (or_alert_at slots id t me low named kind out may)
 
-  swap_alert_at : (slots id : ℕ) (me : Me (Slot T) (View T H W)) → me.0.number < most_threads → me.0.kind ≡ Member → me.0.part.wait ≡ None → MayTell traced me.0.part.life me.0.part.pen
-      → Allows (IsKept l traced w begin holds) slots id me (alert_at me.0.number) (λ _. 0) (swap_alert_tells (step slots (alert_at me.0.number) 0 0 none) me)
+  swap_alert_at : (slots id : ℕ) (me : Me (Slot T) (View T H W)) → me.0.number < most_threads → me.0.kind ≡ Member → me.0.part.wait ≡ None → MayRecord traced me.0.part.life me.0.part.pen
+      → Allows (IsKept l traced w begin holds) slots id me (alert_at me.0.number) (λ _. 0) (swap_alert_records (step slots (alert_at me.0.number) 0 0 none) me)
   swap_alert_at slots id me low kind out may = let v = me.0 in let n = v.number in let p = v.part in let i = alert_at n in
       member_steps l traced w begin holds slots id i (λ _. 0) v me.1
-      (λ r q ds. ((r ≡ 0) ⊎ (r ≡ 1)) × (p.alerted ≡ true → r ≡ 1) × Learns (test_alert_event n (eqb r 1)) n p (λ z. record (recorded p z (test_alert_event n (eqb r 1))) { alerted = false }) q × (ds ≡ me.1)) (swap_alert_tells (step slots i 0 0 none) me) kind
+      (λ r q ds. ((r ≡ 0) ⊎ (r ≡ 1)) × (p.alerted ≡ true → r ≡ 1) × Learns (test_alert_event n (eqb r 1)) n p (λ z. record (recorded p z (test_alert_event n (eqb r 1))) { alerted = false }) q × (ds ≡ me.1)) (swap_alert_records (step slots i 0 0 none) me) kind
       (λ r q ds u. idle-live p q v.child may.0 (ap (λ (z : Part T H). z.life) u.2.2))
       (λ r q ds world u. (u.0, u.1, u.2.0, u.2.1, λ j. (with_part v (u.2.2 j), u.3 j)))
       (λ words homes all c at small.
@@ -174,15 +174,15 @@ module _ {T H W : Type 0} (l : Layout) (traced : Bool) (w : W) (begin : W → �
       (m.0, keeps, tt, m.1, (zero-one r (c.spec.alerts n) says, c.alert_seen n p at, m.2, refl)))
 
   -- the same at a word that is this place
-  pub swap_alert_keeps : (slots id i : ℕ) (me : Me (Slot T) (View T H W)) → i ≡ alert_at me.0.number → me.0.number < most_threads → me.0.kind ≡ Member → me.0.part.wait ≡ None → MayTell traced me.0.part.life me.0.part.pen
-      → Allows (IsKept l traced w begin holds) slots id me i (λ _. 0) (swap_alert_tells (step slots i 0 0 none) me)
-  swap_alert_keeps slots id i me word low kind out may = subst (λ (i : ℕ). Allows (IsKept l traced w begin holds) slots id me i (λ _. 0) (swap_alert_tells (step slots i 0 0 none) me)) (sym word) (swap_alert_at slots id me low kind out may)
+  pub swap_alert_keeps : (slots id i : ℕ) (me : Me (Slot T) (View T H W)) → i ≡ alert_at me.0.number → me.0.number < most_threads → me.0.kind ≡ Member → me.0.part.wait ≡ None → MayRecord traced me.0.part.life me.0.part.pen
+      → Allows (IsKept l traced w begin holds) slots id me i (λ _. 0) (swap_alert_records (step slots i 0 0 none) me)
+  swap_alert_keeps slots id i me word low kind out may = subst (λ (i : ℕ). Allows (IsKept l traced w begin holds) slots id me i (λ _. 0) (swap_alert_records (step slots i 0 0 none) me)) (sym word) (swap_alert_at slots id me low kind out may)
 
-  swap_alert_in_p_at : (slots id s : ℕ) (me : Me (Slot T) (View T H W)) → s < l.semaphores → me.0.number < most_threads → me.0.kind ≡ Member → me.0.part.wait ≡ None → me.0.part.alerted ≡ true → MayTell traced me.0.part.life me.0.part.pen
-      → Allows (IsKept l traced w begin holds) slots id me (alert_at me.0.number) (λ x. bit_and x (2 * s)) (swap_alert_in_p_tells (step slots (alert_at me.0.number) (2 * s) 0 none) me)
+  swap_alert_in_p_at : (slots id s : ℕ) (me : Me (Slot T) (View T H W)) → s < l.semaphores → me.0.number < most_threads → me.0.kind ≡ Member → me.0.part.wait ≡ None → me.0.part.alerted ≡ true → MayRecord traced me.0.part.life me.0.part.pen
+      → Allows (IsKept l traced w begin holds) slots id me (alert_at me.0.number) (λ x. bit_and x (2 * s)) (swap_alert_in_p_records (step slots (alert_at me.0.number) (2 * s) 0 none) me)
   swap_alert_in_p_at slots id s me named low kind out seen may = let v = me.0 in let n = v.number in let p = v.part in let i = alert_at n in let e = alert_p_raise_event n s in
       member_steps l traced w begin holds slots id i (λ x. bit_and x (2 * s)) v me.1
-      (λ r q ds. (r ≡ 1) × Learns e n p (λ z. record (recorded p z e) { alerted = false }) q × (ds ≡ me.1)) (swap_alert_in_p_tells (step slots i (2 * s) 0 none) me) kind
+      (λ r q ds. (r ≡ 1) × Learns e n p (λ z. record (recorded p z e) { alerted = false }) q × (ds ≡ me.1)) (swap_alert_in_p_records (step slots i (2 * s) 0 none) me) kind
       (λ r q ds u. idle-live p q v.child may.0 (ap (λ (z : Part T H). z.life) u.1.2))
       (λ r q ds world u k is. let same : s ≡ k = omega arith in subst (λ (k : ℕ). (r ≡ 1) × (between : List Event) × Grows n p between (alert_p_raise_event n k) × Becomes me (record (recorded p (p.seen ++ between) (alert_p_raise_event n k)) { alerted = false }) (with_part v q, ds)) same
       (u.0, u.1.0, u.1.1, λ j. (with_part v (u.1.2 j), u.2 j)))
@@ -194,9 +194,9 @@ module _ {T H W : Type 0} (l : Layout) (traced : Bool) (w : W) (begin : W → �
       (m.0, keeps, tt, subst (λ (y : ℕ). Core l traced w holds (set words i y) homes (set all n m.0)) (sym (one-out r s one)) m.1, (one, m.2, refl)))
 
   -- the same at a word that is this place, with this mask
-  pub swap_alert_in_p_keeps : (slots id s i k : ℕ) (me : Me (Slot T) (View T H W)) → i ≡ alert_at me.0.number → k ≡ 2 * s → s < l.semaphores → me.0.number < most_threads → me.0.kind ≡ Member → me.0.part.wait ≡ None → me.0.part.alerted ≡ true → MayTell traced me.0.part.life me.0.part.pen
-      → Allows (IsKept l traced w begin holds) slots id me i (λ x. bit_and x k) (swap_alert_in_p_tells (step slots i k 0 none) me)
-  swap_alert_in_p_keeps slots id s i k me word mask named low kind out seen may = subst (λ (z : ℕ × ℕ). Allows (IsKept l traced w begin holds) slots id me z.0 (λ x. bit_and x z.1) (swap_alert_in_p_tells (step slots z.0 z.1 0 none) me)) (λ j. (sym word j, sym mask j)) (swap_alert_in_p_at slots id s me named low kind out seen may)
+  pub swap_alert_in_p_keeps : (slots id s i k : ℕ) (me : Me (Slot T) (View T H W)) → i ≡ alert_at me.0.number → k ≡ 2 * s → s < l.semaphores → me.0.number < most_threads → me.0.kind ≡ Member → me.0.part.wait ≡ None → me.0.part.alerted ≡ true → MayRecord traced me.0.part.life me.0.part.pen
+      → Allows (IsKept l traced w begin holds) slots id me i (λ x. bit_and x k) (swap_alert_in_p_records (step slots i k 0 none) me)
+  swap_alert_in_p_keeps slots id s i k me word mask named low kind out seen may = subst (λ (z : ℕ × ℕ). Allows (IsKept l traced w begin holds) slots id me z.0 (λ x. bit_and x z.1) (swap_alert_in_p_records (step slots z.0 z.1 0 none) me)) (λ j. (sym word j, sym mask j)) (swap_alert_in_p_at slots id s me named low kind out seen may)
 
   -- the thread n, which stands where it does, saw its alert word set
   sees-alert : (n i : ℕ) (p : Part T H) (words : List ℕ) (homes : List (Option (Slot T))) (all : List (Part T H)) → get_elem? all n ≡ some p → (st : Opt Stand) → p.stand ≡ st → (c : Core l traced w holds words homes all) → get_or words (alert_at n) 0 ≡ 1
@@ -214,9 +214,9 @@ module _ {T H W : Type 0} (l : Layout) (traced : Bool) (w : W) (begin : W → �
       (owes-stage c.queue words words all n p q at s r (λ k lo. refl) stood refl refl (λ u _. untested-still s.stage u) (λ a. absurd (awake-then s.stage a)) refl refl c.owes)
       (begun-frame words words all n p q at (λ k lo. refl) refl (λ h. counted-stands p q refl h refl (λ u d is on. (s, stood, (let z : Some r ≡ Some u = is in let y : r ≡ u = cc in λ j. (y j).at)))) c.begun)
 
-  read_alert_at : (slots id : ℕ) (me : Me (Slot T) (View T H W)) → me.0.number < most_threads → me.0.kind ≡ Member → Allows (IsKept l traced w begin holds) slots id me (alert_at me.0.number) (λ x. x) (read_alert_tells (step slots (alert_at me.0.number) 0 0 none) me)
+  read_alert_at : (slots id : ℕ) (me : Me (Slot T) (View T H W)) → me.0.number < most_threads → me.0.kind ≡ Member → Allows (IsKept l traced w begin holds) slots id me (alert_at me.0.number) (λ x. x) (read_alert_records (step slots (alert_at me.0.number) 0 0 none) me)
   read_alert_at slots id me low kind = let v = me.0 in let n = v.number in let p = v.part in let i = alert_at n in let q : Part T H = record p { alerted = true; stand = alerted_stand p.stand } in
-      member_steps l traced w begin holds slots id i (λ x. x) v me.1 (λ r x ds. (p.alerted ≡ true → r ≡ 1) × (((r ≡ 0) × (x ≡ p)) ⊎ ((r ≡ 1) × (x ≡ q))) × (ds ≡ me.1)) (read_alert_tells (step slots i 0 0 none) me) kind
+      member_steps l traced w begin holds slots id i (λ x. x) v me.1 (λ r x ds. (p.alerted ≡ true → r ≡ 1) × (((r ≡ 0) × (x ≡ p)) ⊎ ((r ≡ 1) × (x ≡ q))) × (ds ≡ me.1)) (read_alert_records (step slots i 0 0 none) me) kind
       (λ r x ds t. ⊎_elim (λ (u : (r ≡ 0) × (x ≡ p)). idle-same p x v.child u.1) (λ (u : (r ≡ 1) × (x ≡ q)). idle-alerted p x v.child u.1) t.1)
       (λ r x ds world t.
       let recorded_by : (r ≡ 0 → (with_part v x, ds) ≡ me) × (r ≢ 0 → (r ≡ 1) × Becomes me q (with_part v x, ds)) = ⊎_elim
@@ -228,15 +228,15 @@ module _ {T H W : Type 0} (l : Layout) (traced : Bool) (w : W) (begin : W → �
       (zero-one (get_or words i 0) (c.spec.alerts n) (c.shows.alerts n low)))
 
   -- the same at a word that is this place
-  pub read_alert_keeps : (slots id i : ℕ) (me : Me (Slot T) (View T H W)) → i ≡ alert_at me.0.number → me.0.number < most_threads → me.0.kind ≡ Member → Allows (IsKept l traced w begin holds) slots id me i (λ x. x) (read_alert_tells (step slots i 0 0 none) me)
-  read_alert_keeps slots id i me word low kind = subst (λ (i : ℕ). Allows (IsKept l traced w begin holds) slots id me i (λ x. x) (read_alert_tells (step slots i 0 0 none) me)) (sym word) (read_alert_at slots id me low kind)
+  pub read_alert_keeps : (slots id i : ℕ) (me : Me (Slot T) (View T H W)) → i ≡ alert_at me.0.number → me.0.number < most_threads → me.0.kind ≡ Member → Allows (IsKept l traced w begin holds) slots id me i (λ x. x) (read_alert_records (step slots i 0 0 none) me)
+  read_alert_keeps slots id i me word low kind = subst (λ (i : ℕ). Allows (IsKept l traced w begin holds) slots id me i (λ x. x) (read_alert_records (step slots i 0 0 none) me)) (sym word) (read_alert_at slots id me low kind)
 
   leave_sem_queue_at : (slots id o r : ℕ) (me : Me (Slot T) (View T H W)) (s : Stand) → o < 128 → me.0.kind ≡ Member → me.0.part.spin ≡ Some o → me.0.part.stand ≡ Some s → s.at ≡ o → mem me.0.number me.0.part.queue ≡ true → r ≡ length (less me.0.number me.0.part.queue)
-      → Allows (IsKept l traced w begin holds) slots id me (length_at o) (λ _. r) (λ _. leave_sem_queue_tells (step slots (length_at o) r 0 none) me r)
+      → Allows (IsKept l traced w begin holds) slots id me (length_at o) (λ _. r) (λ _. leave_sem_queue_records (step slots (length_at o) r 0 none) me r)
   leave_sem_queue_at slots id o r me s low kind here stood on there long = let v = me.0 in let n = v.number in let p = v.part in let ys : List ℕ = less n p.queue in
       let q : Part T H = record p { queue = ys; left = less n p.left; stand = None; turns = left_turns p.stand p.turns } in
-      subst (λ (z : ℕ). Allows (IsKept l traced w begin holds) slots id me (length_at o) (λ _. z) (λ _. leave_sem_queue_tells (step slots (length_at o) z 0 none) me z)) (sym long)
-      (member_steps l traced w begin holds slots id (length_at o) (λ _. length ys) v me.1 (λ x y ds. (y ≡ q) × (ds ≡ me.1)) (λ _. leave_sem_queue_tells (step slots (length_at o) (length ys) 0 none) me (length ys)) kind
+      subst (λ (z : ℕ). Allows (IsKept l traced w begin holds) slots id me (length_at o) (λ _. z) (λ _. leave_sem_queue_records (step slots (length_at o) z 0 none) me z)) (sym long)
+      (member_steps l traced w begin holds slots id (length_at o) (λ _. length ys) v me.1 (λ x y ds. (y ≡ q) × (ds ≡ me.1)) (λ _. leave_sem_queue_records (step slots (length_at o) (length ys) 0 none) me (length ys)) kind
       (λ x y ds t. idle-spun p y v.child o here (ap (λ (z : Part T H). z.life) t.0))
       (λ x y ds world t. (λ i. (with_part v (t.0 i), t.1 i)))
       (λ words homes all c at small.
@@ -268,5 +268,5 @@ module _ {T H W : Type 0} (l : Layout) (traced : Bool) (w : W) (begin : W → �
 
   -- the same at a word that is this place
   pub leave_sem_queue_keeps : (slots id o r : ℕ) (me : Me (Slot T) (View T H W)) (s : Stand) (i : ℕ) → i ≡ length_at o → o < 128 → me.0.kind ≡ Member → me.0.part.spin ≡ Some o → me.0.part.stand ≡ Some s → s.at ≡ o → mem me.0.number me.0.part.queue ≡ true → r ≡ length (less me.0.number me.0.part.queue)
-      → Allows (IsKept l traced w begin holds) slots id me i (λ _. r) (λ _. leave_sem_queue_tells (step slots i r 0 none) me r)
-  leave_sem_queue_keeps slots id o r me s i word low kind here stood on there long = subst (λ (i : ℕ). Allows (IsKept l traced w begin holds) slots id me i (λ _. r) (λ _. leave_sem_queue_tells (step slots i r 0 none) me r)) (sym word) (leave_sem_queue_at slots id o r me s low kind here stood on there long)
+      → Allows (IsKept l traced w begin holds) slots id me i (λ _. r) (λ _. leave_sem_queue_records (step slots i r 0 none) me r)
+  leave_sem_queue_keeps slots id o r me s i word low kind here stood on there long = subst (λ (i : ℕ). Allows (IsKept l traced w begin holds) slots id me i (λ _. r) (λ _. leave_sem_queue_records (step slots i r 0 none) me r)) (sym word) (leave_sem_queue_at slots id o r me s low kind here stood on there long)

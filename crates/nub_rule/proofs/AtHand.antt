@@ -171,7 +171,7 @@ module _ {T H W : Type 0} where
   pub freed_share : (after : W → ℕ → ℕ → T → T → H → H) (m : ℕ) (share : Opt H) (z z' : TableId) (n : ℕ) (es : List Entry) (lo : Bool) {nx : ℕ} (me front me' : Sat T H W) (q : Part T H) (ds : List (ℕ × Slot T)) (a : Known T H W) → known_as z n me es lo nx ≡ a → front.0 ≡ me.0 → me.0.number ≡ n
       → ((y : T) → find (value_at m) me.1 ≡ Some (Value (Some y)) → front.1 ≡ (value_at m, Value (Some y)) ∷ rest front.1) → me' ≡ (with_part front.0 q, ds) → q.share ≡ share
       → ((w : W) (s : H) (x y : T) → front.0.world ≡ Some w → front.0.part.share ≡ Some s → Got front.0.part m x → front.1 ≡ (value_at m, Value (Some y)) ∷ rest front.1 → share ≡ Some (after w m front.0.number x y s)) → PicksShare after m a (known_as z' n me' es lo nx)
-  freed_share after m share z z' n es lo me front me' q ds a v same num first em eq tells w s x y world had got there = ap (λ t. t.0.part.share) em ∙ (eq ∙ (tells w s x y (ap (λ u. u.world) same ∙ (ap (λ k. k.world) v ∙ world)) (ap (λ u. u.part.share) same ∙ (ap (λ k. k.share) v ∙ had))
+  freed_share after m share z z' n es lo me front me' q ds a v same num first em eq records w s x y world had got there = ap (λ t. t.0.part.share) em ∙ (eq ∙ (records w s x y (ap (λ u. u.world) same ∙ (ap (λ k. k.world) v ∙ world)) (ap (λ u. u.part.share) same ∙ (ap (λ k. k.share) v ∙ had))
       (ap (λ u. get_elem? u.part.held m) same ∙ (ap (λ k. get_elem? k.held m) v ∙ got)) (first y (value_is m (Some y) z n es lo me a v there)) ∙ (λ j. Some (after w m ((ap (λ u. u.number) same ∙ (num ∙ ap (λ k. k.number) v)) j) x y s))))
 
 module _ {A : Type 0} where

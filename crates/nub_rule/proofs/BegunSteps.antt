@@ -22,9 +22,9 @@ use Rattle.nub_rule.specs.declared.view.View.{View}
 use Rattle.nub_rule.specs.declared.view.Kind.TheVariants.{Member}
 use Rattle.nub_rule.specs.Begun.{BegunWaits}
 use Rattle.nub_rule.specs.Items.{Core, Conditions, Knows}
-use Rattle.nub_rule.specs.Parts.{MayTell, counts_in, pending_of}
+use Rattle.nub_rule.specs.Parts.{MayRecord, counts_in, pending_of}
 use Rattle.nub_rule.specs.Places.{life_at, bit_at, count_at, alert_at, waits_at, sem_object, cond_object}
-use Rattle.nub_rule.specs.Plays.{Becomes, Grows, recorded, with_part, event, signal_action, broadcast_action, raise_waits_tells, lower_waits_tells, read_waits_tells}
+use Rattle.nub_rule.specs.Plays.{Becomes, Grows, recorded, with_part, event, signal_action, broadcast_action, raise_waits_records, lower_waits_records, read_waits_records}
 use Rattle.nub_rule.specs.Rule.{IsKept}
 use Rattle.nub_rule.proofs.Each.{each-set, at_below, put-at, put-else}
 use Rattle.nub_rule.proofs.Idle.{idle-live, idle-raised}
@@ -86,9 +86,9 @@ module _ {T H W : Type 0} (l : Layout) (traced : Bool) (w : W) (begin : W → �
       begun
 
   raise_waits_at : (slots id c : ℕ) (me : Me (Slot T) (View T H W)) → c < 64 → me.0.kind ≡ Member → me.0.part.life ≡ Live → me.0.part.raised ≡ None
-      → Allows (IsKept l traced w begin holds) slots id me (waits_at (cond_object c)) (λ x. (x + 1) % 2 ^ 64) (raise_waits_tells (step slots (waits_at (cond_object c)) 1 0 none) me)
+      → Allows (IsKept l traced w begin holds) slots id me (waits_at (cond_object c)) (λ x. (x + 1) % 2 ^ 64) (raise_waits_records (step slots (waits_at (cond_object c)) 1 0 none) me)
   raise_waits_at slots id c me low kind live out = let v = me.0 in let n = v.number in let p = v.part in let i : ℕ = waits_at (cond_object c) in let q : Part T H = record p { raised = Some c } in
-      member_steps l traced w begin holds slots id i (λ x. (x + 1) % 2 ^ 64) v me.1 (λ r s ds. (s ≡ q) × (ds ≡ me.1)) (raise_waits_tells (step slots i 1 0 none) me) kind
+      member_steps l traced w begin holds slots id i (λ x. (x + 1) % 2 ^ 64) v me.1 (λ r s ds. (s ≡ q) × (ds ≡ me.1)) (raise_waits_records (step slots i 1 0 none) me) kind
       (λ r s ds t. idle-live p s v.child live (ap (λ (z : Part T H). z.life) t.0))
       (λ r s ds world t d is. let e : c ≡ d = omega arith in (λ j. (with_part v (t.0 j), t.1 j)) ∙ (λ j. (with_part v (record p { raised = Some (e j) }), me.1)))
       (λ words homes all k at small.
@@ -108,13 +108,13 @@ module _ {T H W : Type 0} (l : Layout) (traced : Bool) (w : W) (begin : W → �
 
   -- the same at a word that is this place
   pub raise_waits_keeps : (slots id c : ℕ) (me : Me (Slot T) (View T H W)) (i : ℕ) → i ≡ waits_at (cond_object c) → c < 64 → me.0.kind ≡ Member → me.0.part.life ≡ Live → me.0.part.raised ≡ None
-      → Allows (IsKept l traced w begin holds) slots id me i (λ x. (x + 1) % 2 ^ 64) (raise_waits_tells (step slots i 1 0 none) me)
-  raise_waits_keeps slots id c me i word low kind live out = subst (λ (i : ℕ). Allows (IsKept l traced w begin holds) slots id me i (λ x. (x + 1) % 2 ^ 64) (raise_waits_tells (step slots i 1 0 none) me)) (sym word) (raise_waits_at slots id c me low kind live out)
+      → Allows (IsKept l traced w begin holds) slots id me i (λ x. (x + 1) % 2 ^ 64) (raise_waits_records (step slots i 1 0 none) me)
+  raise_waits_keeps slots id c me i word low kind live out = subst (λ (i : ℕ). Allows (IsKept l traced w begin holds) slots id me i (λ x. (x + 1) % 2 ^ 64) (raise_waits_records (step slots i 1 0 none) me)) (sym word) (raise_waits_at slots id c me low kind live out)
 
   lower_waits_at : (slots id c : ℕ) (me : Me (Slot T) (View T H W)) → c < 64 → me.0.kind ≡ Member → me.0.part.raised ≡ Some c → ((x : Wait) → me.0.part.wait ≡ Some x → x.member ≡ None) → me.0.part.stand ≡ None
-      → Allows (IsKept l traced w begin holds) slots id me (waits_at (cond_object c)) (λ x. (x + (2 ^ 64 - 1)) % 2 ^ 64) (lower_waits_tells (step slots (waits_at (cond_object c)) 1 0 none) me)
+      → Allows (IsKept l traced w begin holds) slots id me (waits_at (cond_object c)) (λ x. (x + (2 ^ 64 - 1)) % 2 ^ 64) (lower_waits_records (step slots (waits_at (cond_object c)) 1 0 none) me)
   lower_waits_at slots id c me low kind has out nowhere = let v = me.0 in let n = v.number in let p = v.part in let i : ℕ = waits_at (cond_object c) in let q : Part T H = record p { raised = None } in
-      member_steps l traced w begin holds slots id i (λ x. (x + (2 ^ 64 - 1)) % 2 ^ 64) v me.1 (λ r s ds. (s ≡ q) × (ds ≡ me.1)) (lower_waits_tells (step slots i 1 0 none) me) kind
+      member_steps l traced w begin holds slots id i (λ x. (x + (2 ^ 64 - 1)) % 2 ^ 64) v me.1 (λ r s ds. (s ≡ q) × (ds ≡ me.1)) (lower_waits_records (step slots i 1 0 none) me) kind
       (λ r s ds t. idle-raised p s v.child c has (ap (λ (z : Part T H). z.life) t.0))
       (λ r s ds world t j. (with_part v (t.0 j), t.1 j))
       (λ words homes all k at small.
@@ -135,8 +135,8 @@ module _ {T H W : Type 0} (l : Layout) (traced : Bool) (w : W) (begin : W → �
 
   -- the same at a word that is this place
   pub lower_waits_keeps : (slots id c : ℕ) (me : Me (Slot T) (View T H W)) (i : ℕ) → i ≡ waits_at (cond_object c) → c < 64 → me.0.kind ≡ Member → me.0.part.raised ≡ Some c → ((x : Wait) → me.0.part.wait ≡ Some x → x.member ≡ None) → me.0.part.stand ≡ None
-      → Allows (IsKept l traced w begin holds) slots id me i (λ x. (x + (2 ^ 64 - 1)) % 2 ^ 64) (lower_waits_tells (step slots i 1 0 none) me)
-  lower_waits_keeps slots id c me i word low kind has out nowhere = subst (λ (i : ℕ). Allows (IsKept l traced w begin holds) slots id me i (λ x. (x + (2 ^ 64 - 1)) % 2 ^ 64) (lower_waits_tells (step slots i 1 0 none) me)) (sym word) (lower_waits_at slots id c me low kind has out nowhere)
+      → Allows (IsKept l traced w begin holds) slots id me i (λ x. (x + (2 ^ 64 - 1)) % 2 ^ 64) (lower_waits_records (step slots i 1 0 none) me)
+  lower_waits_keeps slots id c me i word low kind has out nowhere = subst (λ (i : ℕ). Allows (IsKept l traced w begin holds) slots id me i (λ x. (x + (2 ^ 64 - 1)) % 2 ^ 64) (lower_waits_records (step slots i 1 0 none) me)) (sym word) (lower_waits_at slots id c me low kind has out nowhere)
 
   -- where the begun waits of c are 0, nobody has raised them, nobody is left in its queue, and nobody is in it by a count
   module _ (c : ℕ) (words : List ℕ) (homes : List (Option (Slot T))) (all : List (Part T H)) (k : Core l traced w holds words homes all) (low : c < 64) (zero : get_or words (waits_at (cond_object c)) 0 ≡ 0) where
@@ -153,13 +153,13 @@ module _ {T H W : Type 0} (l : Layout) (traced : Bool) (w : W) (begin : W → �
     nobody-counts : (j : ℕ) (r : Part T H) → get_elem? all j ≡ some r → (i : ℕ) → counts_in r.wait c i ≡ false
     nobody-counts j r at i = not_true (counts_in r.wait c i) (λ is. let u = counts-some r.wait c i is in nobody-raised j r at ((k.begun.covered j r at).member u.0 i u.1 u.3 ∙ ap (λ (z : ℕ). Some z) u.2))
 
-  read_waits_at : (action : ℕ → List ℕ → Action) (f : ℕ → Bool) (slots id c : ℕ) (me : Me (Slot T) (View T H W)) → c < 64 → me.0.kind ≡ Member → me.0.part.wait ≡ None → MayTell traced me.0.part.life me.0.part.pen → ((t : ℕ) → f t ≡ false)
+  read_waits_at : (action : ℕ → List ℕ → Action) (f : ℕ → Bool) (slots id c : ℕ) (me : Me (Slot T) (View T H W)) → c < 64 → me.0.kind ≡ Member → me.0.part.wait ≡ None → MayRecord traced me.0.part.life me.0.part.pen → ((t : ℕ) → f t ≡ false)
       → ((words : List ℕ) (homes : List (Option (Slot T))) (all : List (Part T H)) (k : Core l traced w holds words homes all) → get_elem? all me.0.number ≡ some me.0.part → IsNamed l (action c []) × Acts k.spec (event me.0.number (action c [])) (record k.spec { members = put k.spec.members c f }))
-      → (i : ℕ) → i ≡ waits_at (cond_object c) → Allows (IsKept l traced w begin holds) slots id me i (λ x. x) (read_waits_tells action (step slots i 0 0 none) me)
+      → (i : ℕ) → i ≡ waits_at (cond_object c) → Allows (IsKept l traced w begin holds) slots id me i (λ x. x) (read_waits_records action (step slots i 0 0 none) me)
   read_waits_at action f slots id c me low kind out may none_f acts i word = let v = me.0 in let n = v.number in let p = v.part in let o : ℕ = waits_at (cond_object c) in let e = event n (action c []) in
-      subst (λ (i : ℕ). Allows (IsKept l traced w begin holds) slots id me i (λ x. x) (read_waits_tells action (step slots i 0 0 none) me)) (sym word)
+      subst (λ (i : ℕ). Allows (IsKept l traced w begin holds) slots id me i (λ x. x) (read_waits_records action (step slots i 0 0 none) me)) (sym word)
       (member_steps l traced w begin holds slots id o (λ x. x) v me.1
-      (λ r q ds. ((r ≡ 0) × Learns e n p (λ z. recorded p z e) q × (ds ≡ me.1)) ⊎ ((r ≢ 0) × (q ≡ record p { calling = Some c }) × (ds ≡ me.1))) (read_waits_tells action (step slots o 0 0 none) me) kind
+      (λ r q ds. ((r ≡ 0) × Learns e n p (λ z. recorded p z e) q × (ds ≡ me.1)) ⊎ ((r ≢ 0) × (q ≡ record p { calling = Some c }) × (ds ≡ me.1))) (read_waits_records action (step slots o 0 0 none) me) kind
       (λ r q ds t. idle-live p q v.child may.0 (⊎_elim (λ (u : (r ≡ 0) × Learns e n p (λ z. recorded p z e) q × (ds ≡ me.1)). ap (λ (z : Part T H). z.life) u.1.2) (λ (u : (r ≢ 0) × (q ≡ record p { calling = Some c }) × (ds ≡ me.1)). ap (λ (z : Part T H). z.life) u.1) t))
       (λ r q ds world t d is. let same : c ≡ d = omega arith in
       subst (λ (d : ℕ). (r ≡ 0 → (between : List Event) × Grows n p between (event n (action d [])) × Becomes me (recorded p (p.seen ++ between) (event n (action d []))) (with_part v q, ds)) × (r ≢ 0 → Becomes me (record p { calling = Some d }) (with_part v q, ds))) same
@@ -195,12 +195,12 @@ module _ {T H W : Type 0} (l : Layout) (traced : Bool) (w : W) (begin : W → �
         inr (miss, refl, refl),
       ))))
 
-  pub read_waits_broadcast_keeps : (slots id c : ℕ) (me : Me (Slot T) (View T H W)) (i : ℕ) → i ≡ waits_at (cond_object c) → c < 64 → c < l.conditions → me.0.kind ≡ Member → me.0.part.wait ≡ None → MayTell traced me.0.part.life me.0.part.pen
-      → Allows (IsKept l traced w begin holds) slots id me i (λ x. x) (read_waits_tells broadcast_action (step slots i 0 0 none) me)
+  pub read_waits_broadcast_keeps : (slots id c : ℕ) (me : Me (Slot T) (View T H W)) (i : ℕ) → i ≡ waits_at (cond_object c) → c < 64 → c < l.conditions → me.0.kind ≡ Member → me.0.part.wait ≡ None → MayRecord traced me.0.part.life me.0.part.pen
+      → Allows (IsKept l traced w begin holds) slots id me i (λ x. x) (read_waits_records broadcast_action (step slots i 0 0 none) me)
   read_waits_broadcast_keeps slots id c me i word low named kind out may = read_waits_at broadcast_action (λ _. false) slots id c me low kind out may (λ t. refl)
       (λ words homes all k at. (named, (record { live = k.shows.lives me.0.number me.0.part at ∙ may.0; order = k.shows.pendings.pends me.0.number me.0.part at ∙ ap pending_of out; requires_met = tt; when_met = tt; choice_met = tt }, refl))) i word
 
-  pub read_waits_signal_keeps : (slots id c : ℕ) (me : Me (Slot T) (View T H W)) (i : ℕ) → i ≡ waits_at (cond_object c) → c < 64 → c < l.conditions → me.0.kind ≡ Member → me.0.part.wait ≡ None → MayTell traced me.0.part.life me.0.part.pen
-      → Allows (IsKept l traced w begin holds) slots id me i (λ x. x) (read_waits_tells signal_action (step slots i 0 0 none) me)
+  pub read_waits_signal_keeps : (slots id c : ℕ) (me : Me (Slot T) (View T H W)) (i : ℕ) → i ≡ waits_at (cond_object c) → c < 64 → c < l.conditions → me.0.kind ≡ Member → me.0.part.wait ≡ None → MayRecord traced me.0.part.life me.0.part.pen
+      → Allows (IsKept l traced w begin holds) slots id me i (λ x. x) (read_waits_records signal_action (step slots i 0 0 none) me)
   read_waits_signal_keeps slots id c me i word low named kind out may = read_waits_at signal_action (in_set (set_of [])) slots id c me low kind out may (λ t. in_set-of t [])
       (λ words homes all k at. ((named, λ t is. both_ways (in_set (set_of []) t) is (in_set-of t [])), (record { live = k.shows.lives me.0.number me.0.part at ∙ may.0; order = k.shows.pendings.pends me.0.number me.0.part at ∙ ap pending_of out; requires_met = tt; when_met = tt; choice_met = inl (λ t. in_set-of t []) }, refl))) i word

@@ -27,9 +27,9 @@ use Rattle.nub_rule.specs.declared.view.View.{View}
 use Rattle.nub_rule.specs.declared.view.Kind.TheVariants.{Member}
 use Rattle.nub_rule.specs.Items.{HistoryItem, Shows, Pens, Core}
 use Rattle.nub_rule.specs.Begun.{IsCounted}
-use Rattle.nub_rule.specs.Parts.{is_at, Got, Lacks, MayTell, waits_on, counts_in, pending_of}
+use Rattle.nub_rule.specs.Parts.{is_at, Got, Lacks, MayRecord, waits_on, counts_in, pending_of}
 use Rattle.nub_rule.specs.Places.{bit_at, value_at, queue_at, cond_object}
-use Rattle.nub_rule.specs.Plays.{with_part, recorded, Grows, event, acquire_event, release_event, taken_action, MayTake, try_bit_tells, clear_bit_tells, Won, Freed, Becomes, MayFree}
+use Rattle.nub_rule.specs.Plays.{with_part, recorded, Grows, event, acquire_event, release_event, taken_action, MayTake, try_bit_records, clear_bit_records, Won, Freed, Becomes, MayFree}
 use Rattle.nub_rule.specs.Rule.{FitsAs, IsKept}
 use Rattle.nub_rule.proofs.Each.{at_within, at_below, put-here, put-else}
 use Rattle.nub_rule.proofs.Idle.{idle-live}
@@ -189,7 +189,7 @@ module _ {T H W : Type 0} (l : Layout) (traced : Bool) (w : W) (begin : W → �
 
   module _ (fits : W → ℕ → T → ℕ → H → Type 0)
       (law : (values : List T) (shares : List H) → holds w values shares → (m : ℕ) (x : T) → get_elem? values m ≡ some x → (t : ℕ) (s : H) → get_elem? shares t ≡ some s → fits w m x t s) where
-    tries_at : (e : Event) (n m : ℕ) (p : Part T H) (cs : List (ℕ × Slot T)) → m < l.mutexes → e.thread.0 ≡ n → p.stand ≡ None → MayTell traced p.life p.pen → Taking e m n p → Naming e n p
+    tries_at : (e : Event) (n m : ℕ) (p : Part T H) (cs : List (ℕ × Slot T)) → m < l.mutexes → e.thread.0 ≡ n → p.stand ≡ None → MayRecord traced p.life p.pen → Taking e m n p → Naming e n p
         → Steps l traced w begin holds n (bit_at m) (λ x. either (eqb x 0) 1 x) p cs (λ r q ds. ((r ≡ 0) × Wins fits e m n p cs q ds) ⊎ ((r ≢ 0) × (q ≡ record p { failed = m ∷ p.failed; turns = without m p.turns }) × (ds ≡ cs)))
     tries_at e n m p cs inside by apart may taking naming words homes all c at small = let r : ℕ = get_or words (bit_at m) 0 in let lawful = c.sizes.lawful in let ws = c.sizes.words_wide in let hs = c.sizes.homes_wide in
         let far : m < 192 = omega arith in let near : m < 64 = omega arith in dite (ℕ_discrete r 0)
@@ -237,10 +237,10 @@ module _ {T H W : Type 0} (l : Layout) (traced : Bool) (w : W) (begin : W → �
         ))
         (λ miss. (loser p m, keeps, tt, bit_missed n m p words homes all at far c miss, inr (miss, refl, refl)))
 
-    try_bit_at : (slots id m : ℕ) (e : Event) (me : Me (Slot T) (View T H W)) → m < l.mutexes → me.0.kind ≡ Member → me.0.part.stand ≡ None → MayTake me.0.number m me.0.part.wait e → MayTell traced me.0.part.life me.0.part.pen
-        → Allows (IsKept l traced w begin holds) slots id me (bit_at m) (λ x. either (eqb x 0) 1 x) (try_bit_tells fits (step slots (bit_at m) 0 1 none) me)
+    try_bit_at : (slots id m : ℕ) (e : Event) (me : Me (Slot T) (View T H W)) → m < l.mutexes → me.0.kind ≡ Member → me.0.part.stand ≡ None → MayTake me.0.number m me.0.part.wait e → MayRecord traced me.0.part.life me.0.part.pen
+        → Allows (IsKept l traced w begin holds) slots id me (bit_at m) (λ x. either (eqb x 0) 1 x) (try_bit_records fits (step slots (bit_at m) 0 1 none) me)
     try_bit_at slots id m e me inside kind apart may pen = let v = me.0 in let n = v.number in let p = v.part in let ev = event n (taken_action m p.wait) in member_steps l traced w begin holds slots id (bit_at m) (λ x. either (eqb x 0) 1 x) v me.1
-        (λ r q ds. ((r ≡ 0) × Wins fits ev m n p me.1 q ds) ⊎ ((r ≢ 0) × (q ≡ record p { failed = m ∷ p.failed; turns = without m p.turns }) × (ds ≡ me.1))) (try_bit_tells fits (step slots (bit_at m) 0 1 none) me) kind
+        (λ r q ds. ((r ≡ 0) × Wins fits ev m n p me.1 q ds) ⊎ ((r ≢ 0) × (q ≡ record p { failed = m ∷ p.failed; turns = without m p.turns }) × (ds ≡ me.1))) (try_bit_records fits (step slots (bit_at m) 0 1 none) me) kind
         (λ r q ds t. idle-live p q v.child pen.0 (⊎_elim (λ (u : (r ≡ 0) × Wins fits ev m n p me.1 q ds). ap (λ (z : Part T H). z.life) u.1.6) (λ (u : (r ≢ 0) × (q ≡ record p { failed = m ∷ p.failed; turns = without m p.turns }) × (ds ≡ me.1)). ap (λ (z : Part T H). z.life) u.1) t))
         (λ r q ds world t k is. let same : m ≡ k = omega arith in subst (λ (k : ℕ). (r ≡ 0 → Won fits k me (with_part v q, ds)) × (r ≢ 0 → Becomes me (record p { failed = k ∷ p.failed; turns = without k p.turns }) (with_part v q, ds))) same (⊎_elim
         (λ (u : (r ≡ 0) × Wins fits ev m n p me.1 q ds). (
@@ -251,9 +251,9 @@ module _ {T H W : Type 0} (l : Layout) (traced : Bool) (w : W) (begin : W → �
         (tries_at ev n m p me.1 inside refl apart pen (taking m n p e pen.0 apart may) (λ words homes all c at. taken-named l traced w holds words homes all c n p at m inside p.wait refl))
 
     -- the same at a word that is this place
-    pub try_bit_keeps : (slots id m : ℕ) (e : Event) (me : Me (Slot T) (View T H W)) (i : ℕ) → i ≡ bit_at m → m < l.mutexes → me.0.kind ≡ Member → me.0.part.stand ≡ None → MayTake me.0.number m me.0.part.wait e → MayTell traced me.0.part.life me.0.part.pen
-        → Allows (IsKept l traced w begin holds) slots id me i (λ x. either (eqb x 0) 1 x) (try_bit_tells fits (step slots i 0 1 none) me)
-    try_bit_keeps slots id m e me i word inside kind apart may pen = subst (λ (i : ℕ). Allows (IsKept l traced w begin holds) slots id me i (λ x. either (eqb x 0) 1 x) (try_bit_tells fits (step slots i 0 1 none) me)) (sym word) (try_bit_at slots id m e me inside kind apart may pen)
+    pub try_bit_keeps : (slots id m : ℕ) (e : Event) (me : Me (Slot T) (View T H W)) (i : ℕ) → i ≡ bit_at m → m < l.mutexes → me.0.kind ≡ Member → me.0.part.stand ≡ None → MayTake me.0.number m me.0.part.wait e → MayRecord traced me.0.part.life me.0.part.pen
+        → Allows (IsKept l traced w begin holds) slots id me i (λ x. either (eqb x 0) 1 x) (try_bit_records fits (step slots i 0 1 none) me)
+    try_bit_keeps slots id m e me i word inside kind apart may pen = subst (λ (i : ℕ). Allows (IsKept l traced w begin holds) slots id me i (λ x. either (eqb x 0) 1 x) (try_bit_records fits (step slots i 0 1 none) me)) (sym word) (try_bit_at slots id m e me inside kind apart may pen)
 
   -- what the thread n learns that frees the mutex m
   abbrev Frees : (H → H) → ℕ → ℕ → Part T H → List (ℕ × Slot T) → Part T H → List (ℕ × Slot T) → Type 0
@@ -262,7 +262,7 @@ module _ {T H W : Type 0} (l : Layout) (traced : Bool) (w : W) (begin : W → �
 
   module _ (allows : W → ℕ → ℕ → T → T → H → H → Type 0)
       (law : (values : List T) (shares : List H) → holds w values shares → (m : ℕ) (x y : T) → get_elem? values m ≡ some x → (t : ℕ) (s r : H) → get_elem? shares t ≡ some s → allows w m t x y s r → holds w (set values m y) (set shares t r)) where
-    frees_at : (n m : ℕ) (p : Part T H) (cs : List (ℕ × Slot T)) (x y : T) (next : H → H) → m < l.mutexes → p.wait ≡ None → p.stand ≡ None → Got p m x → cs ≡ (value_at m, Value (Some y)) ∷ rest cs → MayTell traced p.life p.pen → ((s : H) → p.share ≡ Some s → allows w m n x y s (next s))
+    frees_at : (n m : ℕ) (p : Part T H) (cs : List (ℕ × Slot T)) (x y : T) (next : H → H) → m < l.mutexes → p.wait ≡ None → p.stand ≡ None → Got p m x → cs ≡ (value_at m, Value (Some y)) ∷ rest cs → MayRecord traced p.life p.pen → ((s : H) → p.share ≡ Some s → allows w m n x y s (next s))
         → Steps l traced w begin holds n (bit_at m) (λ _. 0) p cs (λ r q ds. (r ≡ 1) × Frees next m n p cs q ds)
     frees_at n m p cs x y next inside out apart got first may allowed words homes all c at small =
         let lawful = c.sizes.lawful in let ws = c.sizes.words_wide in let hs = c.sizes.homes_wide in
@@ -332,12 +332,12 @@ module _ {T H W : Type 0} (l : Layout) (traced : Bool) (w : W) (begin : W → �
           ),
         )
 
-    clear_bit_at : (after : W → ℕ → ℕ → T → T → H → H) (slots id m : ℕ) (me : Me (Slot T) (View T H W)) → m < l.mutexes → me.0.kind ≡ Member → me.0.part.wait ≡ None → me.0.part.stand ≡ None → MayTell traced me.0.part.life me.0.part.pen → MayFree allows after m me
-        → Allows (IsKept l traced w begin holds) slots id me (bit_at m) (λ _. 0) (clear_bit_tells after (step slots (bit_at m) 0 0 none) me)
+    clear_bit_at : (after : W → ℕ → ℕ → T → T → H → H) (slots id m : ℕ) (me : Me (Slot T) (View T H W)) → m < l.mutexes → me.0.kind ≡ Member → me.0.part.wait ≡ None → me.0.part.stand ≡ None → MayRecord traced me.0.part.life me.0.part.pen → MayFree allows after m me
+        → Allows (IsKept l traced w begin holds) slots id me (bit_at m) (λ _. 0) (clear_bit_records after (step slots (bit_at m) 0 0 none) me)
     clear_bit_at after slots id m me inside kind out apart pen may st r wide at small = let v = me.0 in let n = v.number in let p = v.part in let x : T = may.0 in let y : T = may.1 in
         let world : v.world ≡ Some w = (subst (FitsAs l.version l.threads r.given w begin r.all r.seat_of id v) kind (r.fits id v at)).world in
         let next = λ (s : H). after w m n x y s in
-        member_steps l traced w begin holds slots id (bit_at m) (λ _. 0) v me.1 (λ r q ds. (r ≡ 1) × Frees next m n p me.1 q ds) (clear_bit_tells after (step slots (bit_at m) 0 0 none) me) kind
+        member_steps l traced w begin holds slots id (bit_at m) (λ _. 0) v me.1 (λ r q ds. (r ≡ 1) × Frees next m n p me.1 q ds) (clear_bit_records after (step slots (bit_at m) 0 0 none) me) kind
         (λ r q ds t. idle-live p q v.child pen.0 (ap (λ (z : Part T H). z.life) t.1.4))
         (λ r q ds world' t' k is. let t = t'.1 in let same : m ≡ k = omega arith in subst (λ (k : ℕ). Freed after k me r (with_part v q, ds)) same (
           t'.0,
@@ -358,6 +358,6 @@ module _ {T H W : Type 0} (l : Layout) (traced : Bool) (w : W) (begin : W → �
         (frees_at n m p me.1 x y next inside out apart may.2 may.3 pen (λ s is. may.4 w s world is)) st r wide at small
 
     -- the same at a word that is this place
-    pub clear_bit_keeps : (after : W → ℕ → ℕ → T → T → H → H) (slots id m : ℕ) (me : Me (Slot T) (View T H W)) (i : ℕ) → i ≡ bit_at m → m < l.mutexes → me.0.kind ≡ Member → me.0.part.wait ≡ None → me.0.part.stand ≡ None → MayTell traced me.0.part.life me.0.part.pen → MayFree allows after m me
-        → Allows (IsKept l traced w begin holds) slots id me i (λ _. 0) (clear_bit_tells after (step slots i 0 0 none) me)
-    clear_bit_keeps after slots id m me i word inside kind out apart pen may = subst (λ (i : ℕ). Allows (IsKept l traced w begin holds) slots id me i (λ _. 0) (clear_bit_tells after (step slots i 0 0 none) me)) (sym word) (clear_bit_at after slots id m me inside kind out apart pen may)
+    pub clear_bit_keeps : (after : W → ℕ → ℕ → T → T → H → H) (slots id m : ℕ) (me : Me (Slot T) (View T H W)) (i : ℕ) → i ≡ bit_at m → m < l.mutexes → me.0.kind ≡ Member → me.0.part.wait ≡ None → me.0.part.stand ≡ None → MayRecord traced me.0.part.life me.0.part.pen → MayFree allows after m me
+        → Allows (IsKept l traced w begin holds) slots id me i (λ _. 0) (clear_bit_records after (step slots i 0 0 none) me)
+    clear_bit_keeps after slots id m me i word inside kind out apart pen may = subst (λ (i : ℕ). Allows (IsKept l traced w begin holds) slots id me i (λ _. 0) (clear_bit_records after (step slots i 0 0 none) me)) (sym word) (clear_bit_at after slots id m me inside kind out apart pen may)

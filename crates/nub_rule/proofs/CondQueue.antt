@@ -19,7 +19,7 @@ use Rattle.nub_rule.specs.declared.view.Kind.TheVariants.{Member}
 use Rattle.nub_rule.specs.Items.{Core, Conditions, Holders, Shows}
 use Rattle.nub_rule.specs.Parts.{pending_of, waits_on, open_on}
 use Rattle.nub_rule.specs.Places.{count_at, length_at, cond_object}
-use Rattle.nub_rule.specs.Plays.{with_part, tail_of, front, less, unread, recounted, compare_count_tells, push_cond_tells, pop_cond_tells, leave_cond_queue_tells}
+use Rattle.nub_rule.specs.Plays.{with_part, tail_of, front, less, unread, recounted, compare_count_records, push_cond_records, pop_cond_records, leave_cond_queue_records}
 use Rattle.nub_rule.specs.Rule.{IsKept}
 use Rattle.nub_rule.proofs.Each.{each-set, put-here, put-else}
 use Rattle.nub_rule.proofs.Idle.{idle-spun}
@@ -66,9 +66,9 @@ same-count j k e = cc
 
 module _ {T H W : Type 0} (l : Layout) (traced : Bool) (w : W) (begin : W → ℕ → H) (holds : W → List T → List H → Type 0) where
   compare_count_at : (slots id c j : ℕ) (x : Wait) (me : Me (Slot T) (View T H W)) (i : ℕ) → i ≡ count_at (cond_object c) → c < 64 → me.0.kind ≡ Member → me.0.part.spin ≡ Some (cond_object c) → me.0.part.wait ≡ Some x → x.cond.0 ≡ c → x.member ≡ Some j
-      → Allows (IsKept l traced w begin holds) slots id me i (λ x. x) (compare_count_tells (step slots i 0 0 none) me)
+      → Allows (IsKept l traced w begin holds) slots id me i (λ x. x) (compare_count_records (step slots i 0 0 none) me)
   compare_count_at slots id c j x me i word low kind here before on stood = let v = me.0 in let n = v.number in let p = v.part in let q : Part T H = record p { wait = unread p.wait } in
-      member_steps l traced w begin holds slots id i (λ x. x) v me.1 (λ r s ds. (r ≡ p.count) × (r ≡ j → s ≡ p) × (r ≢ j → s ≡ q) × (ds ≡ me.1)) (compare_count_tells (step slots i 0 0 none) me) kind
+      member_steps l traced w begin holds slots id i (λ x. x) v me.1 (λ r s ds. (r ≡ p.count) × (r ≡ j → s ≡ p) × (r ≢ j → s ≡ q) × (ds ≡ me.1)) (compare_count_records (step slots i 0 0 none) me) kind
       (λ r s ds t. idle-spun p s v.child (cond_object c) here (dite (ℕ_discrete r j) (λ hit. ap (λ (z : Part T H). z.life) (t.1 hit)) (λ miss. ap (λ (z : Part T H). z.life) (t.2 miss))))
       (λ r s ds world t. (
         t.0,
@@ -101,15 +101,15 @@ module _ {T H W : Type 0} (l : Layout) (traced : Bool) (w : W) (begin : W → �
       )))
 
   pub compare_count_keeps : (slots id c j : ℕ) (x : Wait) (me : Me (Slot T) (View T H W)) (i : ℕ) → i ≡ count_at (cond_object c) → c < 64 → me.0.kind ≡ Member → me.0.part.spin ≡ Some (cond_object c) → me.0.part.wait ≡ Some x → x.cond.0 ≡ c → x.member ≡ Some j
-      → Allows (IsKept l traced w begin holds) slots id me i (λ x. x) (compare_count_tells (step slots i 0 0 none) me)
+      → Allows (IsKept l traced w begin holds) slots id me i (λ x. x) (compare_count_records (step slots i 0 0 none) me)
   compare_count_keeps = compare_count_at
 
   push_cond_at : (slots id c r : ℕ) (x : Wait) (me : Me (Slot T) (View T H W)) → c < 64 → me.0.kind ≡ Member → me.0.part.spin ≡ Some (cond_object c) → me.0.part.stand ≡ None → me.0.part.wait ≡ Some x → x.cond.0 ≡ c → x.member ≡ Some me.0.part.count → r ≡ length (me.0.part.queue ++ me.0.number ∷ [])
-      → Allows (IsKept l traced w begin holds) slots id me (length_at (cond_object c)) (λ _. r) (λ _. push_cond_tells (step slots (length_at (cond_object c)) r 0 none) me r)
+      → Allows (IsKept l traced w begin holds) slots id me (length_at (cond_object c)) (λ _. r) (λ _. push_cond_records (step slots (length_at (cond_object c)) r 0 none) me r)
   push_cond_at slots id c r me_wait me low kind here out before on stood long = let v = me.0 in let n = v.number in let p = v.part in let o : ℕ = cond_object c in let ys : List ℕ = p.queue ++ n ∷ [] in let st : Stand = record { at = o; stage = Tested } in
       let q : Part T H = record p { queue = ys; left = p.left ++ n ∷ []; stand = Some st; wait = unread p.wait } in
-      subst (λ (z : ℕ). Allows (IsKept l traced w begin holds) slots id me (length_at o) (λ _. z) (λ _. push_cond_tells (step slots (length_at o) z 0 none) me z)) (sym long)
-      (member_steps l traced w begin holds slots id (length_at o) (λ _. length ys) v me.1 (λ x s ds. (s ≡ q) × (ds ≡ me.1)) (λ _. push_cond_tells (step slots (length_at o) (length ys) 0 none) me (length ys)) kind
+      subst (λ (z : ℕ). Allows (IsKept l traced w begin holds) slots id me (length_at o) (λ _. z) (λ _. push_cond_records (step slots (length_at o) z 0 none) me z)) (sym long)
+      (member_steps l traced w begin holds slots id (length_at o) (λ _. length ys) v me.1 (λ x s ds. (s ≡ q) × (ds ≡ me.1)) (λ _. push_cond_records (step slots (length_at o) (length ys) 0 none) me (length ys)) kind
       (λ x s ds t. idle-spun p s v.child o here (ap (λ (z : Part T H). z.life) t.0))
       (λ x s ds world t k is. let e : o ≡ k = omega arith in (λ i. (with_part v (t.0 i), t.1 i)) ∙ (λ i. (with_part v (record p { queue = ys; left = p.left ++ n ∷ []; stand = Some record { at = e i; stage = Tested }; wait = unread p.wait }), me.1)))
       (λ words homes all k at small.
@@ -137,15 +137,15 @@ module _ {T H W : Type 0} (l : Layout) (traced : Bool) (w : W) (begin : W → �
 
   -- the same at a word that is this place
   pub push_cond_keeps : (slots id c r : ℕ) (x : Wait) (me : Me (Slot T) (View T H W)) (i : ℕ) → i ≡ length_at (cond_object c) → c < 64 → me.0.kind ≡ Member → me.0.part.spin ≡ Some (cond_object c) → me.0.part.stand ≡ None → me.0.part.wait ≡ Some x → x.cond.0 ≡ c → x.member ≡ Some me.0.part.count → r ≡ length (me.0.part.queue ++ me.0.number ∷ [])
-      → Allows (IsKept l traced w begin holds) slots id me i (λ _. r) (λ _. push_cond_tells (step slots i r 0 none) me r)
-  push_cond_keeps slots id c r x me i word low kind here out before on stood long = subst (λ (i : ℕ). Allows (IsKept l traced w begin holds) slots id me i (λ _. r) (λ _. push_cond_tells (step slots i r 0 none) me r)) (sym word) (push_cond_at slots id c r x me low kind here out before on stood long)
+      → Allows (IsKept l traced w begin holds) slots id me i (λ _. r) (λ _. push_cond_records (step slots i r 0 none) me r)
+  push_cond_keeps slots id c r x me i word low kind here out before on stood long = subst (λ (i : ℕ). Allows (IsKept l traced w begin holds) slots id me i (λ _. r) (λ _. push_cond_records (step slots i r 0 none) me r)) (sym word) (push_cond_at slots id c r x me low kind here out before on stood long)
 
   pop_cond_at : (slots id c r : ℕ) (me : Me (Slot T) (View T H W)) → c < 64 → me.0.kind ≡ Member → me.0.part.spin ≡ Some (cond_object c) → me.0.part.wait ≡ None → ((t : ℕ) → mem t (tail_of me.0.part.queue) ≡ false → mem t me.0.part.left ≡ false) → r ≡ length (tail_of me.0.part.queue)
-      → Allows (IsKept l traced w begin holds) slots id me (length_at (cond_object c)) (λ _. r) (λ _. pop_cond_tells (step slots (length_at (cond_object c)) r 0 none) me r)
+      → Allows (IsKept l traced w begin holds) slots id me (length_at (cond_object c)) (λ _. r) (λ _. pop_cond_records (step slots (length_at (cond_object c)) r 0 none) me r)
   pop_cond_at slots id c r me low kind here out taken long = let v = me.0 in let n = v.number in let p = v.part in let o : ℕ = cond_object c in let ys : List ℕ = tail_of p.queue in
       let q : Part T H = record p { queue = ys; owed = p.owed ++ front p.queue } in
-      subst (λ (z : ℕ). Allows (IsKept l traced w begin holds) slots id me (length_at o) (λ _. z) (λ _. pop_cond_tells (step slots (length_at o) z 0 none) me z)) (sym long)
-      (member_steps l traced w begin holds slots id (length_at o) (λ _. length ys) v me.1 (λ x s ds. (s ≡ q) × (ds ≡ me.1)) (λ _. pop_cond_tells (step slots (length_at o) (length ys) 0 none) me (length ys)) kind
+      subst (λ (z : ℕ). Allows (IsKept l traced w begin holds) slots id me (length_at o) (λ _. z) (λ _. pop_cond_records (step slots (length_at o) z 0 none) me z)) (sym long)
+      (member_steps l traced w begin holds slots id (length_at o) (λ _. length ys) v me.1 (λ x s ds. (s ≡ q) × (ds ≡ me.1)) (λ _. pop_cond_records (step slots (length_at o) (length ys) 0 none) me (length ys)) kind
       (λ x s ds t. idle-spun p s v.child o here (ap (λ (z : Part T H). z.life) t.0))
       (λ x s ds world t i. (with_part v (t.0 i), t.1 i))
       (λ words homes all k at small.
@@ -172,15 +172,15 @@ module _ {T H W : Type 0} (l : Layout) (traced : Bool) (w : W) (begin : W → �
 
   -- the same at a word that is this place
   pub pop_cond_keeps : (slots id c r : ℕ) (me : Me (Slot T) (View T H W)) (i : ℕ) → i ≡ length_at (cond_object c) → c < 64 → me.0.kind ≡ Member → me.0.part.spin ≡ Some (cond_object c) → me.0.part.wait ≡ None → ((t : ℕ) → mem t (tail_of me.0.part.queue) ≡ false → mem t me.0.part.left ≡ false) → r ≡ length (tail_of me.0.part.queue)
-      → Allows (IsKept l traced w begin holds) slots id me i (λ _. r) (λ _. pop_cond_tells (step slots i r 0 none) me r)
-  pop_cond_keeps slots id c r me i word low kind here out taken long = subst (λ (i : ℕ). Allows (IsKept l traced w begin holds) slots id me i (λ _. r) (λ _. pop_cond_tells (step slots i r 0 none) me r)) (sym word) (pop_cond_at slots id c r me low kind here out taken long)
+      → Allows (IsKept l traced w begin holds) slots id me i (λ _. r) (λ _. pop_cond_records (step slots i r 0 none) me r)
+  pop_cond_keeps slots id c r me i word low kind here out taken long = subst (λ (i : ℕ). Allows (IsKept l traced w begin holds) slots id me i (λ _. r) (λ _. pop_cond_records (step slots i r 0 none) me r)) (sym word) (pop_cond_at slots id c r me low kind here out taken long)
 
   leave_cond_queue_at : (slots id c r : ℕ) (x : Wait) (me : Me (Slot T) (View T H W)) → c < 64 → me.0.kind ≡ Member → me.0.part.spin ≡ Some (cond_object c) → me.0.part.wait ≡ Some x → x.cond.0 ≡ c → mem me.0.number me.0.part.queue ≡ true → r ≡ length (less me.0.number me.0.part.queue)
-      → Allows (IsKept l traced w begin holds) slots id me (length_at (cond_object c)) (λ _. r) (λ _. leave_cond_queue_tells (step slots (length_at (cond_object c)) r 0 none) me r)
+      → Allows (IsKept l traced w begin holds) slots id me (length_at (cond_object c)) (λ _. r) (λ _. leave_cond_queue_records (step slots (length_at (cond_object c)) r 0 none) me r)
   leave_cond_queue_at slots id c r me_wait me low kind here before on there long = let v = me.0 in let n = v.number in let p = v.part in let o : ℕ = cond_object c in let ys : List ℕ = less n p.queue in
       let q : Part T H = record p { queue = ys; left = less n p.left; stand = None; wait = recounted p.count p.wait } in
-      subst (λ (z : ℕ). Allows (IsKept l traced w begin holds) slots id me (length_at o) (λ _. z) (λ _. leave_cond_queue_tells (step slots (length_at o) z 0 none) me z)) (sym long)
-      (member_steps l traced w begin holds slots id (length_at o) (λ _. length ys) v me.1 (λ x s ds. (s ≡ q) × (ds ≡ me.1)) (λ _. leave_cond_queue_tells (step slots (length_at o) (length ys) 0 none) me (length ys)) kind
+      subst (λ (z : ℕ). Allows (IsKept l traced w begin holds) slots id me (length_at o) (λ _. z) (λ _. leave_cond_queue_records (step slots (length_at o) z 0 none) me z)) (sym long)
+      (member_steps l traced w begin holds slots id (length_at o) (λ _. length ys) v me.1 (λ x s ds. (s ≡ q) × (ds ≡ me.1)) (λ _. leave_cond_queue_records (step slots (length_at o) (length ys) 0 none) me (length ys)) kind
       (λ x s ds t. idle-spun p s v.child o here (ap (λ (z : Part T H). z.life) t.0))
       (λ x s ds world t i. (with_part v (t.0 i), t.1 i))
       (λ words homes all k at small.
@@ -213,5 +213,5 @@ module _ {T H W : Type 0} (l : Layout) (traced : Bool) (w : W) (begin : W → �
 
   -- the same at a word that is this place
   pub leave_cond_queue_keeps : (slots id c r : ℕ) (x : Wait) (me : Me (Slot T) (View T H W)) (i : ℕ) → i ≡ length_at (cond_object c) → c < 64 → me.0.kind ≡ Member → me.0.part.spin ≡ Some (cond_object c) → me.0.part.wait ≡ Some x → x.cond.0 ≡ c → mem me.0.number me.0.part.queue ≡ true → r ≡ length (less me.0.number me.0.part.queue)
-      → Allows (IsKept l traced w begin holds) slots id me i (λ _. r) (λ _. leave_cond_queue_tells (step slots i r 0 none) me r)
-  leave_cond_queue_keeps slots id c r x me i word low kind here before on there long = subst (λ (i : ℕ). Allows (IsKept l traced w begin holds) slots id me i (λ _. r) (λ _. leave_cond_queue_tells (step slots i r 0 none) me r)) (sym word) (leave_cond_queue_at slots id c r x me low kind here before on there long)
+      → Allows (IsKept l traced w begin holds) slots id me i (λ _. r) (λ _. leave_cond_queue_records (step slots i r 0 none) me r)
+  leave_cond_queue_keeps slots id c r x me i word low kind here before on there long = subst (λ (i : ℕ). Allows (IsKept l traced w begin holds) slots id me i (λ _. r) (λ _. leave_cond_queue_records (step slots i r 0 none) me r)) (sym word) (leave_cond_queue_at slots id c r x me low kind here before on there long)

@@ -21,9 +21,9 @@ use Rattle.nub_rule.specs.declared.view.View.{View}
 use Rattle.nub_rule.specs.declared.view.Wait.{Wait}
 use Rattle.nub_rule.specs.declared.view.Kind.TheVariants.{Member}
 use Rattle.nub_rule.specs.Items.{Core, Holders, Shows, Distinct}
-use Rattle.nub_rule.specs.Parts.{Got, MayTell, pending_of, waits_on, open_on}
+use Rattle.nub_rule.specs.Parts.{Got, MayRecord, pending_of, waits_on, open_on}
 use Rattle.nub_rule.specs.Places.{life_at, bit_at, count_at, alert_at, value_at, waits_at, sem_object, cond_object}
-use Rattle.nub_rule.specs.Plays.{Becomes, Grows, recorded, with_part, tail_of, event, begun_wait, enqueue_event, signal_action, broadcast_action, load_count_tells, know_count_tells, advance_tells}
+use Rattle.nub_rule.specs.Plays.{Becomes, Grows, recorded, with_part, tail_of, event, begun_wait, enqueue_event, signal_action, broadcast_action, load_count_records, know_count_records, advance_records}
 use Rattle.nub_rule.specs.Rule.{IsKept}
 use Rattle.nub_rule.proofs.Each.{each-set, put-here, put-else}
 use Rattle.nub_rule.proofs.Idle.{idle-live, idle-same}
@@ -106,7 +106,7 @@ module _ {T H W : Type 0} (l : Layout) (traced : Bool) (w : W) (begin : W → �
   abbrev after_load : Bool → ℕ → ℕ → ℕ → ℕ → Part T H → List Event → Part T H
   after_load alertable n m c r p z = record (recorded p z (enqueue_event alertable n m c)) { wait = Some (begun_wait alertable m c r) }
 
-  loads_at : (alertable : Bool) (n m c : ℕ) (p : Part T H) (cs : List (ℕ × Slot T)) (x : T) → c < 64 → (m < l.mutexes) × (c < l.conditions) → Got p m x → p.wait ≡ None → p.left ≡ p.queue → p.raised ≡ Some c → MayTell traced p.life p.pen
+  loads_at : (alertable : Bool) (n m c : ℕ) (p : Part T H) (cs : List (ℕ × Slot T)) (x : T) → c < 64 → (m < l.mutexes) × (c < l.conditions) → Got p m x → p.wait ≡ None → p.left ≡ p.queue → p.raised ≡ Some c → MayRecord traced p.life p.pen
       → Steps l traced w begin holds n (count_at (cond_object c)) (λ x. x) p cs (λ r q ds. Learns (enqueue_event alertable n m c) n p (after_load alertable n m c r p) q × (ds ≡ cs))
   loads_at alertable n m c p cs x low named got out even raised may words homes all k at small =
       let i : ℕ = count_at (cond_object c) in
@@ -136,10 +136,10 @@ module _ {T H W : Type 0} (l : Layout) (traced : Bool) (w : W) (begin : W → �
       named_so true n m c h = h
       named_so false n m c h = h
 
-  load_count_at : (alertable : Bool) (slots id m c : ℕ) (s : Slot T) (me : Me (Slot T) (View T H W)) (x : T) → c < 64 → (m < l.mutexes) × (c < l.conditions) → me.0.kind ≡ Member → me.1 ≡ (value_at m, s) ∷ rest me.1 → Got me.0.part m x → me.0.part.wait ≡ None → me.0.part.left ≡ me.0.part.queue → me.0.part.raised ≡ Some c → MayTell traced me.0.part.life me.0.part.pen
-      → Allows (IsKept l traced w begin holds) slots id me (count_at (cond_object c)) (λ x. x) (load_count_tells alertable (step slots (count_at (cond_object c)) 0 0 none) me)
+  load_count_at : (alertable : Bool) (slots id m c : ℕ) (s : Slot T) (me : Me (Slot T) (View T H W)) (x : T) → c < 64 → (m < l.mutexes) × (c < l.conditions) → me.0.kind ≡ Member → me.1 ≡ (value_at m, s) ∷ rest me.1 → Got me.0.part m x → me.0.part.wait ≡ None → me.0.part.left ≡ me.0.part.queue → me.0.part.raised ≡ Some c → MayRecord traced me.0.part.life me.0.part.pen
+      → Allows (IsKept l traced w begin holds) slots id me (count_at (cond_object c)) (λ x. x) (load_count_records alertable (step slots (count_at (cond_object c)) 0 0 none) me)
   load_count_at alertable slots id m c s me x low named kind first got out even raised may = let v = me.0 in let n = v.number in let p = v.part in let i : ℕ = count_at (cond_object c) in
-      member_steps l traced w begin holds slots id i (λ x. x) v me.1 (λ r q ds. Learns (enqueue_event alertable n m c) n p (after_load alertable n m c r p) q × (ds ≡ me.1)) (load_count_tells alertable (step slots i 0 0 none) me) kind
+      member_steps l traced w begin holds slots id i (λ x. x) v me.1 (λ r q ds. Learns (enqueue_event alertable n m c) n p (after_load alertable n m c r p) q × (ds ≡ me.1)) (load_count_records alertable (step slots i 0 0 none) me) kind
       (λ r q ds t. idle-live p q v.child may.0 (ap (λ (z : Part T H). z.life) t.0.2))
       (λ r q ds world t m' c' s' is first'.
       let em : m ≡ m' = let z = key_of me.1 (value_at m) (value_at m') s s' first first' in omega arith in
@@ -149,24 +149,24 @@ module _ {T H W : Type 0} (l : Layout) (traced : Bool) (w : W) (begin : W → �
       (loads_at alertable n m c p me.1 x low named got out even raised may)
 
   -- the same at a word that is this place
-  pub load_count_keeps : (alertable : Bool) (slots id m c : ℕ) (s : Slot T) (me : Me (Slot T) (View T H W)) (x : T) (i : ℕ) → i ≡ count_at (cond_object c) → c < 64 → (m < l.mutexes) × (c < l.conditions) → me.0.kind ≡ Member → me.1 ≡ (value_at m, s) ∷ rest me.1 → Got me.0.part m x → me.0.part.wait ≡ None → me.0.part.left ≡ me.0.part.queue → me.0.part.raised ≡ Some c → MayTell traced me.0.part.life me.0.part.pen
-      → Allows (IsKept l traced w begin holds) slots id me i (λ x. x) (load_count_tells alertable (step slots i 0 0 none) me)
-  load_count_keeps alertable slots id m c s me x i word low named kind first got out even raised may = subst (λ (i : ℕ). Allows (IsKept l traced w begin holds) slots id me i (λ x. x) (load_count_tells alertable (step slots i 0 0 none) me)) (sym word) (load_count_at alertable slots id m c s me x low named kind first got out even raised may)
+  pub load_count_keeps : (alertable : Bool) (slots id m c : ℕ) (s : Slot T) (me : Me (Slot T) (View T H W)) (x : T) (i : ℕ) → i ≡ count_at (cond_object c) → c < 64 → (m < l.mutexes) × (c < l.conditions) → me.0.kind ≡ Member → me.1 ≡ (value_at m, s) ∷ rest me.1 → Got me.0.part m x → me.0.part.wait ≡ None → me.0.part.left ≡ me.0.part.queue → me.0.part.raised ≡ Some c → MayRecord traced me.0.part.life me.0.part.pen
+      → Allows (IsKept l traced w begin holds) slots id me i (λ x. x) (load_count_records alertable (step slots i 0 0 none) me)
+  load_count_keeps alertable slots id m c s me x i word low named kind first got out even raised may = subst (λ (i : ℕ). Allows (IsKept l traced w begin holds) slots id me i (λ x. x) (load_count_records alertable (step slots i 0 0 none) me)) (sym word) (load_count_at alertable slots id m c s me x low named kind first got out even raised may)
 
-  know_count_at : (slots id c : ℕ) (me : Me (Slot T) (View T H W)) → c < 64 → me.0.kind ≡ Member → me.0.part.spin ≡ Some (cond_object c) → Allows (IsKept l traced w begin holds) slots id me (count_at (cond_object c)) (λ x. x) (know_count_tells (step slots (count_at (cond_object c)) 0 0 none) me)
+  know_count_at : (slots id c : ℕ) (me : Me (Slot T) (View T H W)) → c < 64 → me.0.kind ≡ Member → me.0.part.spin ≡ Some (cond_object c) → Allows (IsKept l traced w begin holds) slots id me (count_at (cond_object c)) (λ x. x) (know_count_records (step slots (count_at (cond_object c)) 0 0 none) me)
   know_count_at slots id c me low kind here = let v = me.0 in let n = v.number in let p = v.part in let i : ℕ = count_at (cond_object c) in
-      member_steps l traced w begin holds slots id i (λ x. x) v me.1 (λ r q ds. (r ≡ p.count) × (q ≡ p) × (ds ≡ me.1)) (know_count_tells (step slots i 0 0 none) me) kind
+      member_steps l traced w begin holds slots id i (λ x. x) v me.1 (λ r q ds. (r ≡ p.count) × (q ≡ p) × (ds ≡ me.1)) (know_count_records (step slots i 0 0 none) me) kind
       (λ r q ds t. idle-same p q v.child t.1)
       (λ r q ds world t. (t.0, λ j. (with_part v (t.1 j), t.2 j)))
       (λ words homes all k at small. let own = ((k.spins.spinning n p at (cond_object c)).0 here).0 in let s = k.shows.conditions in
       (p, keeps, tt, idle l traced w holds words homes all i n p at k, (s.counted c low ∙ sym ((s.knows n p at).inside c own).1, refl, refl)))
 
   -- the same at a word that is this place
-  pub know_count_keeps : (slots id c : ℕ) (me : Me (Slot T) (View T H W)) (i : ℕ) → i ≡ count_at (cond_object c) → c < 64 → me.0.kind ≡ Member → me.0.part.spin ≡ Some (cond_object c) → Allows (IsKept l traced w begin holds) slots id me i (λ x. x) (know_count_tells (step slots i 0 0 none) me)
-  know_count_keeps slots id c me i word low kind here = subst (λ (i : ℕ). Allows (IsKept l traced w begin holds) slots id me i (λ x. x) (know_count_tells (step slots i 0 0 none) me)) (sym word) (know_count_at slots id c me low kind here)
+  pub know_count_keeps : (slots id c : ℕ) (me : Me (Slot T) (View T H W)) (i : ℕ) → i ≡ count_at (cond_object c) → c < 64 → me.0.kind ≡ Member → me.0.part.spin ≡ Some (cond_object c) → Allows (IsKept l traced w begin holds) slots id me i (λ x. x) (know_count_records (step slots i 0 0 none) me)
+  know_count_keeps slots id c me i word low kind here = subst (λ (i : ℕ). Allows (IsKept l traced w begin holds) slots id me i (λ x. x) (know_count_records (step slots i 0 0 none) me)) (sym word) (know_count_at slots id c me low kind here)
 
   -- an event by which the count of c is advanced, and ys are left
-  advances_at : (n c : ℕ) (e : Event) (ys : List ℕ) (f : ℕ → Bool) (p : Part T H) (cs : List (ℕ × Slot T)) → c < 64 → p.spin ≡ Some (cond_object c) → p.wait ≡ None → p.count < 18446744073709551615 → MayTell traced p.life p.pen → e.thread.0 ≡ n
+  advances_at : (n c : ℕ) (e : Event) (ys : List ℕ) (f : ℕ → Bool) (p : Part T H) (cs : List (ℕ × Slot T)) → c < 64 → p.spin ≡ Some (cond_object c) → p.wait ≡ None → p.count < 18446744073709551615 → MayRecord traced p.life p.pen → e.thread.0 ≡ n
       → ((t : ℕ) → f t ≡ mem t ys) → ((t : ℕ) → mem t p.left ≡ false → mem t ys ≡ false)
       → ((words : List ℕ) (homes : List (Option (Slot T))) (all : List (Part T H)) (k : Core l traced w holds words homes all) → get_elem? all n ≡ some p → IsNamed l e.action × Acts k.spec e (record k.spec { members = put k.spec.members c f }))
       → Steps l traced w begin holds n (count_at (cond_object c)) (λ x. (x + 1) % 2 ^ 64) p cs (λ r q ds. (r ≡ p.count) × Distinct p.queue × Learns e n p (λ z. record (recorded p z e) { left = ys; count = p.count + 1; calling = None }) q × (ds ≡ cs))
@@ -199,27 +199,27 @@ module _ {T H W : Type 0} (l : Layout) (traced : Bool) (w : W) (begin : W → �
       (λ z. begun-same words words' all n p (after z) at (waits-stay words i v (λ j lo y. omega arith)) refl refl refl k.begun) in
       (done.0, keeps, tt, done.1, (sym known, subst Distinct (sym spins.1) (distinct-tail_of (k.owed (cond_object c)) (k.queue (cond_object c)) (k.lines.distinct (cond_object c))), done.2, refl))
 
-  advance_at : (leave : List ℕ → List ℕ) (action : ℕ → List ℕ → Action) (f : ℕ → Bool) (slots id c : ℕ) (me : Me (Slot T) (View T H W)) → c < 64 → me.0.kind ≡ Member → me.0.part.spin ≡ Some (cond_object c) → me.0.part.wait ≡ None → me.0.part.count < 18446744073709551615 → MayTell traced me.0.part.life me.0.part.pen
+  advance_at : (leave : List ℕ → List ℕ) (action : ℕ → List ℕ → Action) (f : ℕ → Bool) (slots id c : ℕ) (me : Me (Slot T) (View T H W)) → c < 64 → me.0.kind ≡ Member → me.0.part.spin ≡ Some (cond_object c) → me.0.part.wait ≡ None → me.0.part.count < 18446744073709551615 → MayRecord traced me.0.part.life me.0.part.pen
       → ((t : ℕ) → f t ≡ mem t (leave me.0.part.queue)) → ((t : ℕ) → mem t me.0.part.left ≡ false → mem t (leave me.0.part.queue) ≡ false)
       → ((words : List ℕ) (homes : List (Option (Slot T))) (all : List (Part T H)) (k : Core l traced w holds words homes all) → get_elem? all me.0.number ≡ some me.0.part → IsNamed l (action c (leave me.0.part.queue)) × Acts k.spec (event me.0.number (action c (leave me.0.part.queue))) (record k.spec { members = put k.spec.members c f }))
-      → (i : ℕ) → i ≡ count_at (cond_object c) → Allows (IsKept l traced w begin holds) slots id me i (λ x. (x + 1) % 2 ^ 64) (advance_tells leave action (step slots i 1 0 none) me)
+      → (i : ℕ) → i ≡ count_at (cond_object c) → Allows (IsKept l traced w begin holds) slots id me i (λ x. (x + 1) % 2 ^ 64) (advance_records leave action (step slots i 1 0 none) me)
   advance_at leave action f slots id c me low kind here out more may is less acts i word = let v = me.0 in let n = v.number in let p = v.part in let o : ℕ = count_at (cond_object c) in let ys : List ℕ = leave p.queue in
       let At : ℕ → Part T H → List (ℕ × Slot T) → Type 0 = λ r q ds. (r ≡ p.count) × Distinct p.queue × Learns (event n (action c ys)) n p (λ z. record (recorded p z (event n (action c ys))) { left = ys; count = p.count + 1; calling = None }) q × (ds ≡ me.1) in
-      subst (λ (i : ℕ). Allows (IsKept l traced w begin holds) slots id me i (λ x. (x + 1) % 2 ^ 64) (advance_tells leave action (step slots i 1 0 none) me)) (sym word)
-      (member_steps l traced w begin holds slots id o (λ x. (x + 1) % 2 ^ 64) v me.1 At (advance_tells leave action (step slots o 1 0 none) me) kind
+      subst (λ (i : ℕ). Allows (IsKept l traced w begin holds) slots id me i (λ x. (x + 1) % 2 ^ 64) (advance_records leave action (step slots i 1 0 none) me)) (sym word)
+      (member_steps l traced w begin holds slots id o (λ x. (x + 1) % 2 ^ 64) v me.1 At (advance_records leave action (step slots o 1 0 none) me) kind
       (λ r q ds t. idle-live p q v.child may.0 (ap (λ (z : Part T H). z.life) t.2.2))
       (λ r q ds world t c' is'. let ec : c ≡ c' = omega arith in
       subst (λ (z : ℕ). (r ≡ p.count) × Distinct p.queue × (between : List Event) × Grows n p between (event n (action z ys)) × Becomes me (record (recorded p (p.seen ++ between) (event n (action z ys))) { left = ys; count = p.count + 1; calling = None }) (with_part v q, ds)) ec
       (t.0, t.1, t.2.0, t.2.1, λ j. (with_part v (t.2.2 j), t.3 j)))
       (advances_at n c (event n (action c ys)) ys f p me.1 low here out more may refl is less acts))
 
-  pub advance_broadcast_keeps : (slots id c : ℕ) (me : Me (Slot T) (View T H W)) (i : ℕ) → i ≡ count_at (cond_object c) → c < 64 → c < l.conditions → me.0.kind ≡ Member → me.0.part.spin ≡ Some (cond_object c) → me.0.part.wait ≡ None → me.0.part.count < 18446744073709551615 → MayTell traced me.0.part.life me.0.part.pen
-      → Allows (IsKept l traced w begin holds) slots id me i (λ x. (x + 1) % 2 ^ 64) (advance_tells (λ _. []) broadcast_action (step slots i 1 0 none) me)
+  pub advance_broadcast_keeps : (slots id c : ℕ) (me : Me (Slot T) (View T H W)) (i : ℕ) → i ≡ count_at (cond_object c) → c < 64 → c < l.conditions → me.0.kind ≡ Member → me.0.part.spin ≡ Some (cond_object c) → me.0.part.wait ≡ None → me.0.part.count < 18446744073709551615 → MayRecord traced me.0.part.life me.0.part.pen
+      → Allows (IsKept l traced w begin holds) slots id me i (λ x. (x + 1) % 2 ^ 64) (advance_records (λ _. []) broadcast_action (step slots i 1 0 none) me)
   advance_broadcast_keeps slots id c me i word low named kind here out more may = advance_at (λ _. []) broadcast_action (λ _. false) slots id c me low kind here out more may (λ t. refl) (λ t is. refl)
       (λ words homes all k at. (named, (record { live = k.shows.lives me.0.number me.0.part at ∙ may.0; order = k.shows.pendings.pends me.0.number me.0.part at ∙ ap pending_of out; requires_met = tt; when_met = tt; choice_met = tt }, refl))) i word
 
-  pub advance_signal_keeps : (slots id c : ℕ) (me : Me (Slot T) (View T H W)) (i : ℕ) → i ≡ count_at (cond_object c) → c < 64 → c < l.conditions → me.0.kind ≡ Member → me.0.part.spin ≡ Some (cond_object c) → me.0.part.wait ≡ None → me.0.part.left ≡ me.0.part.queue → me.0.part.count < 18446744073709551615 → MayTell traced me.0.part.life me.0.part.pen
-      → Allows (IsKept l traced w begin holds) slots id me i (λ x. (x + 1) % 2 ^ 64) (advance_tells tail_of signal_action (step slots i 1 0 none) me)
+  pub advance_signal_keeps : (slots id c : ℕ) (me : Me (Slot T) (View T H W)) (i : ℕ) → i ≡ count_at (cond_object c) → c < 64 → c < l.conditions → me.0.kind ≡ Member → me.0.part.spin ≡ Some (cond_object c) → me.0.part.wait ≡ None → me.0.part.left ≡ me.0.part.queue → me.0.part.count < 18446744073709551615 → MayRecord traced me.0.part.life me.0.part.pen
+      → Allows (IsKept l traced w begin holds) slots id me i (λ x. (x + 1) % 2 ^ 64) (advance_records tail_of signal_action (step slots i 1 0 none) me)
   advance_signal_keeps slots id c me i word low named kind here out even more may = let n = me.0.number in let p = me.0.part in let ys : List ℕ = tail_of p.queue in
       advance_at tail_of signal_action (in_set (set_of ys)) slots id c me low kind here out more may (λ t. in_set-of t ys) (λ t off. less-tail_of t p.queue (ap (mem t) (sym even) ∙ off))
       (λ words homes all k at.

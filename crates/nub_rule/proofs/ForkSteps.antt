@@ -18,11 +18,11 @@ use Rattle.nub_rule.specs.declared.view.Part.{Part}
 use Rattle.nub_rule.specs.declared.view.View.{View}
 use Rattle.nub_rule.specs.declared.view.Kind.TheVariants.{Member}
 use Rattle.nub_rule.specs.Items.{Chronicle, HistoryItem, Pens, Core}
-use Rattle.nub_rule.specs.Parts.{MayTell, newborn, unborn, pending_of}
+use Rattle.nub_rule.specs.Parts.{MayRecord, newborn, unborn, pending_of}
 use Rattle.nub_rule.specs.Places.{most_threads, bit_at, life_at}
 use Rattle.atomic_table.specs.Seated.{TableId}
 use Rattle.nub_rule.specs.Known.{IsThread}
-use Rattle.nub_rule.specs.Plays.{Grows, Sat, recorded, with_part, fork_event, fork_life_tells}
+use Rattle.nub_rule.specs.Plays.{Grows, Sat, recorded, with_part, fork_event, fork_life_records}
 use Rattle.nub_rule.specs.Rule.{ChildFits, FitsAs, SeatFits, IsKept, IsOfChild}
 use Rattle.nub_rule.proofs.Apart.{thread-of}
 use Rattle.nub_rule.proofs.Each.{at_within, each-set}
@@ -52,7 +52,7 @@ module _ {T H W : Type 0} (l : Layout) (traced : Bool) (w : W) (holds : W → Li
     pub grows : Grows n p between (fork_event n t)
     pub core : Core l traced w holds (set words (life_at t) 1) homes (set (set all n (recorded p (p.seen ++ between) (fork_event n t))) t (newborn l.version ((p.seen ++ between) ++ fork_event n t ∷ []) s))
 
-  forks-of : (n t : ℕ) (p : Part T H) (s : Opt H) (words : List ℕ) (homes : List (Option (Slot T))) (all : List (Part T H)) → Core l traced w holds words homes all → get_elem? all n ≡ some p → get_elem? all t ≡ some (unborn l.version s) → t ≢ n → p.wait ≡ None → MayTell traced p.life p.pen → Forks n t p s words homes all
+  forks-of : (n t : ℕ) (p : Part T H) (s : Opt H) (words : List ℕ) (homes : List (Option (Slot T))) (all : List (Part T H)) → Core l traced w holds words homes all → get_elem? all n ≡ some p → get_elem? all t ≡ some (unborn l.version s) → t ≢ n → p.wait ≡ None → MayRecord traced p.life p.pen → Forks n t p s words homes all
   forks-of n t p s words homes all c at there ne out may =
       let i : ℕ = life_at t in
       let e = fork_event n t in
@@ -120,8 +120,8 @@ module _ {T H W : Type 0} (l : Layout) (traced : Bool) (w : W) (holds : W → Li
       }
 
 module _ {T H W : Type 0} (l : Layout) (traced : Bool) (w : W) (begin : W → ℕ → H) (holds : W → List T → List H → Type 0) where
-  fork_life_at : (slots id t : ℕ) (me : Me (Slot T) (View T H W)) → me.0.kind ≡ Member → me.0.child ≡ May t → me.0.part.wait ≡ None → MayTell traced me.0.part.life me.0.part.pen
-      → Allows (IsKept l traced w begin holds) slots id me (life_at t) (λ _. 1) (λ _. fork_life_tells (step slots (life_at t) 1 0 none) me 1)
+  fork_life_at : (slots id t : ℕ) (me : Me (Slot T) (View T H W)) → me.0.kind ≡ Member → me.0.child ≡ May t → me.0.part.wait ≡ None → MayRecord traced me.0.part.life me.0.part.pen
+      → Allows (IsKept l traced w begin holds) slots id me (life_at t) (λ _. 1) (λ _. fork_life_records (step slots (life_at t) 1 0 none) me 1)
   fork_life_at slots id t me kind child out may s r wide at small =
       let v = me.0 in let n = v.number in let p = v.part in
       let own : FitsAs l.version l.threads r.given w begin r.all r.seat_of id v Member = subst (FitsAs l.version l.threads r.given w begin r.all r.seat_of id v) kind (r.fits id v at) in
@@ -158,9 +158,9 @@ module _ {T H W : Type 0} (l : Layout) (traced : Bool) (w : W) (begin : W → �
       )
 
   -- the same at a word that is this place
-  pub fork_life_keeps : (slots id t : ℕ) (me : Me (Slot T) (View T H W)) (i : ℕ) → i ≡ life_at t → me.0.kind ≡ Member → me.0.child ≡ May t → me.0.part.wait ≡ None → MayTell traced me.0.part.life me.0.part.pen
-      → Allows (IsKept l traced w begin holds) slots id me i (λ _. 1) (λ _. fork_life_tells (step slots i 1 0 none) me 1)
-  fork_life_keeps slots id t me i word kind child out may = subst (λ (i : ℕ). Allows (IsKept l traced w begin holds) slots id me i (λ _. 1) (λ _. fork_life_tells (step slots i 1 0 none) me 1)) (sym word) (fork_life_at slots id t me kind child out may)
+  pub fork_life_keeps : (slots id t : ℕ) (me : Me (Slot T) (View T H W)) (i : ℕ) → i ≡ life_at t → me.0.kind ≡ Member → me.0.child ≡ May t → me.0.part.wait ≡ None → MayRecord traced me.0.part.life me.0.part.pen
+      → Allows (IsKept l traced w begin holds) slots id me i (λ _. 1) (λ _. fork_life_records (step slots i 1 0 none) me 1)
+  fork_life_keeps slots id t me i word kind child out may = subst (λ (i : ℕ). Allows (IsKept l traced w begin holds) slots id me i (λ _. 1) (λ _. fork_life_records (step slots i 1 0 none) me 1)) (sym word) (fork_life_at slots id t me kind child out may)
 
 module _ {T H W : Type 0} where
   -- a thread that forked another is one still

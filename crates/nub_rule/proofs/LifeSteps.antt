@@ -23,9 +23,9 @@ use Rattle.nub_rule.specs.declared.view.View.{View}
 use Rattle.nub_rule.specs.declared.view.Child.TheVariants.{No as Childless}
 use Rattle.nub_rule.specs.declared.view.Kind.TheVariants.{Member}
 use Rattle.nub_rule.specs.Items.{Each, Lives, Shows, Core}
-use Rattle.nub_rule.specs.Parts.{Got, HasNothing, MayTell, number_of, pending_of, waits_on}
+use Rattle.nub_rule.specs.Parts.{Got, HasNothing, MayRecord, number_of, pending_of, waits_on}
 use Rattle.nub_rule.specs.Places.{most_threads, alert_at, bit_at, count_at, life_at, cond_object, sem_object, waits_at}
-use Rattle.nub_rule.specs.Plays.{Becomes, Grows, recorded, with_part, end_event, join_event, end_life_tells, read_life_tells}
+use Rattle.nub_rule.specs.Plays.{Becomes, Grows, recorded, with_part, end_event, join_event, end_life_records, read_life_records}
 use Rattle.nub_rule.specs.Rule.{IsKept}
 use Rattle.nub_rule.proofs.Apart.{thread-of}
 use Rattle.nub_rule.proofs.Each.{at_below, at_within, each-set, put-here, put-else, same_at}
@@ -95,7 +95,7 @@ module _ {T H W : Type 0} (l : Layout) (traced : Bool) (w : W) (begin : W → �
   abbrev ended : ℕ → Part T H → List Event → Part T H
   ended n p z = record (recorded p z (end_event n)) { life = Ended }
 
-  ends_at : (n : ℕ) (p : Part T H) (cs : List (ℕ × Slot T)) → l.version ≡ Two → ((m : ℕ) (x : T) → ¬ Got p m x) → p.wait ≡ None → MayTell traced p.life p.pen
+  ends_at : (n : ℕ) (p : Part T H) (cs : List (ℕ × Slot T)) → l.version ≡ Two → ((m : ℕ) (x : T) → ¬ Got p m x) → p.wait ≡ None → MayRecord traced p.life p.pen
       → Steps l traced w begin holds n (life_at n) (λ _. 2) p cs (λ r q ds. Learns (end_event n) n p (ended n p) q × (ds ≡ cs))
   ends_at n p cs two lacks out may words homes all k at small =
       let i : ℕ = life_at n in
@@ -116,20 +116,20 @@ module _ {T H W : Type 0} (l : Layout) (traced : Bool) (w : W) (begin : W → �
       (λ z. begun-same words words' all n p (ended n p z) at (waits-stay words i 2 (λ j lo f. omega arith)) refl refl refl k.begun) in
       (done.0, keeps, tt, done.1, (done.2, refl))
 
-  end_life_at : (slots id : ℕ) (me : Me (Slot T) (View T H W)) → l.version ≡ Two → me.0.kind ≡ Member → HasNothing me.0.part → me.0.child ≡ Childless → MayTell traced me.0.part.life me.0.part.pen
-      → Allows (IsKept l traced w begin holds) slots id me (life_at me.0.number) (λ _. 2) (λ _. end_life_tells (step slots (life_at me.0.number) 2 0 none) me 2)
+  end_life_at : (slots id : ℕ) (me : Me (Slot T) (View T H W)) → l.version ≡ Two → me.0.kind ≡ Member → HasNothing me.0.part → me.0.child ≡ Childless → MayRecord traced me.0.part.life me.0.part.pen
+      → Allows (IsKept l traced w begin holds) slots id me (life_at me.0.number) (λ _. 2) (λ _. end_life_records (step slots (life_at me.0.number) 2 0 none) me 2)
   end_life_at slots id me two kind nothing alone may = let v = me.0 in let n = v.number in let p = v.part in
-      member_steps l traced w begin holds slots id (life_at n) (λ _. 2) v me.1 (λ r q ds. Learns (end_event n) n p (ended n p) q × (ds ≡ me.1)) (λ _. end_life_tells (step slots (life_at n) 2 0 none) me 2) kind
+      member_steps l traced w begin holds slots id (life_at n) (λ _. 2) v me.1 (λ r q ds. Learns (end_event n) n p (ended n p) q × (ds ≡ me.1)) (λ _. end_life_records (step slots (life_at n) 2 0 none) me 2) kind
       (λ r q ds u _. idle-ended p q v.child (p.seen ++ u.0.0) (end_event n) u.0.2 nothing alone)
       (λ r q ds world u. (u.0.0, u.0.1, λ j. (with_part v (u.0.2 j), u.1 j)))
       (ends_at n p me.1 two nothing.none nothing.wait may)
 
   -- the same at a word that is this place
-  pub end_life_keeps : (slots id : ℕ) (me : Me (Slot T) (View T H W)) (i : ℕ) → i ≡ life_at me.0.number → l.version ≡ Two → me.0.kind ≡ Member → HasNothing me.0.part → me.0.child ≡ Childless → MayTell traced me.0.part.life me.0.part.pen
-      → Allows (IsKept l traced w begin holds) slots id me i (λ _. 2) (λ _. end_life_tells (step slots i 2 0 none) me 2)
-  end_life_keeps slots id me i word two kind nothing alone may = subst (λ (i : ℕ). Allows (IsKept l traced w begin holds) slots id me i (λ _. 2) (λ _. end_life_tells (step slots i 2 0 none) me 2)) (sym word) (end_life_at slots id me two kind nothing alone may)
+  pub end_life_keeps : (slots id : ℕ) (me : Me (Slot T) (View T H W)) (i : ℕ) → i ≡ life_at me.0.number → l.version ≡ Two → me.0.kind ≡ Member → HasNothing me.0.part → me.0.child ≡ Childless → MayRecord traced me.0.part.life me.0.part.pen
+      → Allows (IsKept l traced w begin holds) slots id me i (λ _. 2) (λ _. end_life_records (step slots i 2 0 none) me 2)
+  end_life_keeps slots id me i word two kind nothing alone may = subst (λ (i : ℕ). Allows (IsKept l traced w begin holds) slots id me i (λ _. 2) (λ _. end_life_records (step slots i 2 0 none) me 2)) (sym word) (end_life_at slots id me two kind nothing alone may)
 
-  reads_at : (n t : ℕ) (p : Part T H) (cs : List (ℕ × Slot T)) → t < l.threads → p.wait ≡ None → MayTell traced p.life p.pen
+  reads_at : (n t : ℕ) (p : Part T H) (cs : List (ℕ × Slot T)) → t < l.threads → p.wait ≡ None → MayRecord traced p.life p.pen
       → Steps l traced w begin holds n (life_at t) (λ x. x) p cs (λ r q ds. ((r ≡ 2) × Learns (join_event n t) n p (λ z. recorded p z (join_event n t)) q × (ds ≡ cs)) ⊎ ((r ≢ 2) × (q ≡ p) × (ds ≡ cs)))
   reads_at n t p cs named out may words homes all k at small =
       let i : ℕ = life_at t in
@@ -156,11 +156,11 @@ module _ {T H W : Type 0} (l : Layout) (traced : Bool) (w : W) (begin : W → �
       (done.0, keeps, tt, done.1, inl (hit, done.2, refl)))
       (λ miss. (p, keeps, tt, idle l traced w holds words homes all i n p at k, inr (miss, refl, refl)))
 
-  read_life_at : (slots id t : ℕ) (me : Me (Slot T) (View T H W)) → t < most_threads → t < l.threads → me.0.kind ≡ Member → me.0.part.wait ≡ None → MayTell traced me.0.part.life me.0.part.pen
-      → Allows (IsKept l traced w begin holds) slots id me (life_at t) (λ x. x) (read_life_tells (step slots (life_at t) 0 0 none) me)
+  read_life_at : (slots id t : ℕ) (me : Me (Slot T) (View T H W)) → t < most_threads → t < l.threads → me.0.kind ≡ Member → me.0.part.wait ≡ None → MayRecord traced me.0.part.life me.0.part.pen
+      → Allows (IsKept l traced w begin holds) slots id me (life_at t) (λ x. x) (read_life_records (step slots (life_at t) 0 0 none) me)
   read_life_at slots id t me low named kind out may = let v = me.0 in let n = v.number in let p = v.part in let e = join_event n t in
       member_steps l traced w begin holds slots id (life_at t) (λ x. x) v me.1
-      (λ r q ds. ((r ≡ 2) × Learns e n p (λ z. recorded p z e) q × (ds ≡ me.1)) ⊎ ((r ≢ 2) × (q ≡ p) × (ds ≡ me.1))) (read_life_tells (step slots (life_at t) 0 0 none) me) kind
+      (λ r q ds. ((r ≡ 2) × Learns e n p (λ z. recorded p z e) q × (ds ≡ me.1)) ⊎ ((r ≢ 2) × (q ≡ p) × (ds ≡ me.1))) (read_life_records (step slots (life_at t) 0 0 none) me) kind
       (λ r q ds u. idle-live p q v.child may.0 (⊎_elim (λ (y : (r ≡ 2) × Learns e n p (λ z. recorded p z e) q × (ds ≡ me.1)). ap (λ (z : Part T H). z.life) y.1.2) (λ (y : (r ≢ 2) × (q ≡ p) × (ds ≡ me.1)). ap (λ (z : Part T H). z.life) y.1) u))
       (λ r q ds world u k few is. let same : t ≡ k = thread-of t k low few (omega arith) in
       subst (λ (k : ℕ). (r ≡ 2 → (between : List Event) × Grows n p between (join_event n k) × Becomes me (recorded p (p.seen ++ between) (join_event n k)) (with_part v q, ds)) × (r ≢ 2 → (let z : Me (Slot T) (View T H W) = (with_part v q, ds) in z) ≡ me)) same
@@ -170,6 +170,6 @@ module _ {T H W : Type 0} (l : Layout) (traced : Bool) (w : W) (begin : W → �
       (reads_at n t p me.1 named out may)
 
   -- the same at a word that is this place
-  pub read_life_keeps : (slots id t : ℕ) (me : Me (Slot T) (View T H W)) (i : ℕ) → i ≡ life_at t → t < most_threads → t < l.threads → me.0.kind ≡ Member → me.0.part.wait ≡ None → MayTell traced me.0.part.life me.0.part.pen
-      → Allows (IsKept l traced w begin holds) slots id me i (λ x. x) (read_life_tells (step slots i 0 0 none) me)
-  read_life_keeps slots id t me i word low named kind out may = subst (λ (i : ℕ). Allows (IsKept l traced w begin holds) slots id me i (λ x. x) (read_life_tells (step slots i 0 0 none) me)) (sym word) (read_life_at slots id t me low named kind out may)
+  pub read_life_keeps : (slots id t : ℕ) (me : Me (Slot T) (View T H W)) (i : ℕ) → i ≡ life_at t → t < most_threads → t < l.threads → me.0.kind ≡ Member → me.0.part.wait ≡ None → MayRecord traced me.0.part.life me.0.part.pen
+      → Allows (IsKept l traced w begin holds) slots id me i (λ x. x) (read_life_records (step slots i 0 0 none) me)
+  read_life_keeps slots id t me i word low named kind out may = subst (λ (i : ℕ). Allows (IsKept l traced w begin holds) slots id me i (λ x. x) (read_life_records (step slots i 0 0 none) me)) (sym word) (read_life_at slots id t me low named kind out may)

@@ -12,7 +12,7 @@ use Rattle.nub_rule.specs.declared.view.Part.{Part}
 use Rattle.nub_rule.specs.Items.{Shows, Pens, AlertSeen, Lives, Core}
 use Rattle.nub_rule.specs.Owed.{WakeOwed}
 use Rattle.nub_rule.specs.Begun.{BegunWaits}
-use Rattle.nub_rule.specs.Parts.{made, MayTell}
+use Rattle.nub_rule.specs.Parts.{made, MayRecord}
 use Rattle.nub_rule.specs.Places.{most_threads, bit_at, spin_at, length_at, ready_at, pen_at, number_at}
 use Rattle.nub_rule.specs.Plays.{Grows}
 use Rattle.nub_rule.proofs.Each.{at_within}
@@ -53,14 +53,14 @@ module _ {T H W : Type 0} (l : Layout) (traced : Bool) (w : W) (holds : W → Li
   abbrev pub Marked : Event → ℕ → ℕ → ℕ → Part T H → (List Event → Part T H) → List ℕ → List (Option (Slot T)) → List (Part T H) → Type 0
   Marked e n i x p after words homes all = (q : Part T H) × Core l traced w holds (set words i x) homes (set all n q) × Learns e n p after q
 
-  pub marks : (e : Event) (n i x : ℕ) (p : Part T H) (after : List Event → Part T H) (words : List ℕ) (homes : List (Option (Slot T))) (all : List (Part T H)) (c : Core l traced w holds words homes all) (spec' : Spec) → get_elem? all n ≡ some p → e.thread.0 ≡ n → IsNamed l e.action → MayTell traced p.life p.pen → Aside i
+  pub marks : (e : Event) (n i x : ℕ) (p : Part T H) (after : List Event → Part T H) (words : List ℕ) (homes : List (Option (Slot T))) (all : List (Part T H)) (c : Core l traced w holds words homes all) (spec' : Spec) → get_elem? all n ≡ some p → e.thread.0 ≡ n → IsNamed l e.action → MayRecord traced p.life p.pen → Aside i
       → ((z : List Event) → IsRecorded p (after z) z e) → Acts c.spec e spec' → ((z : List Event) → Shows (set words i x) c.spinner c.queue c.owner spec' (set all n (after z)))
       → ((z : List Event) → AlertSeen (set words i x) (set all n (after z))) → ((z : List Event) → Lives (set words i x) (set all n (after z))) → ((z : List Event) → WakeOwed c.queue (set words i x) (set all n (after z))) → ((z : List Event) → BegunWaits (set words i x) (set all n (after z))) → Marked e n i x p after words homes all
-  marks e n i x p after words homes all c spec' at by named may aside tells acts shows saw lives owes begun =
+  marks e n i x p after words homes all c spec' at by named may aside records acts shows saw lives owes begun =
       let seen = (c.recorded.each n p at).begins in
       let z : List Event = p.seen ++ seen.0 in
       let q : Part T H = after z in
-      let t = tells z in
+      let t = records z in
       let longer : q.seen ≡ c.log ++ e ∷ [] = t.seen ∙ ap (λ (y : List Event). y ++ e ∷ []) (sym seen.1) in
       let placed : q.places ≡ p.places ++ length c.log ∷ [] = t.places ∙ ap (λ (y : List Event). p.places ++ length y ∷ []) (sym seen.1) in
       let run = leads-snoc (at_first l.version) c.log c.spec e spec' c.run acts in

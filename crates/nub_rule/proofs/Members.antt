@@ -68,7 +68,7 @@ module _ {T H W : Type 0} (l : Layout) (traced : Bool) (w : W) (begin : W → �
       → v.kind ≡ Member → ((r : ℕ) (q : Part T H) (ds : List (ℕ × Slot T)) → then r q ds → HasNothingUnlessLive v.part v.child → HasNothingUnlessLive q v.child)
       → ((r : ℕ) (q : Part T H) (ds : List (ℕ × Slot T)) → v.world ≡ Some w → then r q ds → then' r (with_part v q, ds))
       → Steps v.number i f v.part cs then → Allows (IsKept l traced w begin holds) slots id (v, cs) i f then'
-  member_steps slots id i f v cs then then' kind stays tells steps s r wide at small =
+  member_steps slots id i f v cs then then' kind stays records steps s r wide at small =
       let sf = r.fits id v at in
       let own : FitsAs l.version l.threads r.given w begin r.all r.seat_of id v Member = subst (FitsAs l.version l.threads r.given w begin r.all r.seat_of id v) kind sf in
       let t = steps s.words s.homes r.all r.core own.own small in
@@ -89,5 +89,5 @@ module _ {T H W : Type 0} (l : Layout) (traced : Bool) (w : W) (begin : W → �
           placed = λ n lo. placed-set s.views id (r.seat_of n) n v (with_part v q) Member Member at kind kind (λ is. is) (r.placed n lo);
           core = t.3;
         },
-        tells _ q _ own.world t.4,
+        records _ q _ own.world t.4,
       )

@@ -14,9 +14,9 @@ use Rattle.nub_rule.specs.declared.view.Pen.TheVariants.{No, Taken, Read, Made, 
 use Rattle.nub_rule.specs.declared.view.View.{View}
 use Rattle.nub_rule.specs.declared.view.Kind.TheVariants.{Member}
 use Rattle.nub_rule.specs.Items.{Marks, PenFits, Pens, Core}
-use Rattle.nub_rule.specs.Parts.{made, MayTell, MayGivePen}
+use Rattle.nub_rule.specs.Parts.{made, MayRecord, MayGivePen}
 use Rattle.nub_rule.specs.Places.{bit_at, pen_at, number_at}
-use Rattle.nub_rule.specs.Plays.{with_part, take_pen_tells, read_number_tells, write_number_tells, give_pen_tells}
+use Rattle.nub_rule.specs.Plays.{with_part, take_pen_records, read_number_records, write_number_records, give_pen_records}
 use Rattle.nub_rule.specs.Rule.{IsKept}
 use Rattle.nub_rule.proofs.Each.{at_within, each-set}
 use Rattle.nub_rule.proofs.Idle.{idle-penned, idle-same}
@@ -84,7 +84,7 @@ either_way false f g = g refl
 
 module _ {T H : Type 0} (traced : Bool) (total : ℕ) (words : List ℕ) (writer : Option ℕ) (all : List (Part T H)) (n : ℕ) (p q : Part T H) (at : get_elem? all n ≡ some p) where
   -- an event by the thread n
-  pub pens-event : (words' : List ℕ) → get_or words' pen_at 0 ≡ get_or words pen_at 0 → get_or words' number_at 0 ≡ get_or words number_at 0 → MayTell traced p.life p.pen → q.pen ≡ made p.pen → Pens traced total words writer all → Pens traced (total + 1) words' writer (set all n q)
+  pub pens-event : (words' : List ℕ) → get_or words' pen_at 0 ≡ get_or words pen_at 0 → get_or words' number_at 0 ≡ get_or words number_at 0 → MayRecord traced p.life p.pen → q.pen ≡ made p.pen → Pens traced total words writer all → Pens traced (total + 1) words' writer (set all n q)
   pens-event words' ep en may is h = either_way traced
       (λ traces.
       let r = may.1 traces in
@@ -164,9 +164,9 @@ module _ {T H W : Type 0} (l : Layout) (traced : Bool) (w : W) (begin : W → �
       (owes-frame c.queue words (set words i y) all n p q at (λ k up. other words i (bit_at k) y (λ z. omega arith)) refl refl refl c.owes)
       (begun-same words (set words i y) all n p q at (waits-stay words i y (λ j up z. omega arith)) refl refl refl c.begun)
 
-  pub take_pen_keeps : (slots id : ℕ) (me : Me (Slot T) (View T H W)) → traced ≡ true → me.0.kind ≡ Member → me.0.part.pen ≡ No → Allows (IsKept l traced w begin holds) slots id me pen_at (λ x. either (eqb x 0) 1 x) (take_pen_tells (step slots pen_at 0 1 none) me)
+  pub take_pen_keeps : (slots id : ℕ) (me : Me (Slot T) (View T H W)) → traced ≡ true → me.0.kind ≡ Member → me.0.part.pen ≡ No → Allows (IsKept l traced w begin holds) slots id me pen_at (λ x. either (eqb x 0) 1 x) (take_pen_records (step slots pen_at 0 1 none) me)
   take_pen_keeps slots id me traces kind out = let v = me.0 in let n = v.number in let p = v.part in let q : Part T H = record p { pen = Taken } in member_steps l traced w begin holds slots id pen_at (λ x. either (eqb x 0) 1 x) v me.1
-      (λ r s ds. ((r ≡ 0) × (s ≡ q) × (ds ≡ me.1)) ⊎ ((r ≡ 1) × (s ≡ p) × (ds ≡ me.1))) (take_pen_tells (step slots pen_at 0 1 none) me) kind
+      (λ r s ds. ((r ≡ 0) × (s ≡ q) × (ds ≡ me.1)) ⊎ ((r ≡ 1) × (s ≡ p) × (ds ≡ me.1))) (take_pen_records (step slots pen_at 0 1 none) me) kind
       (λ r s ds t. ⊎_elim (λ (u : (r ≡ 0) × (s ≡ q) × (ds ≡ me.1)). idle-penned p s v.child Taken u.1) (λ (u : (r ≡ 1) × (s ≡ p) × (ds ≡ me.1)). idle-same p s v.child u.1) t)
       (λ r s ds world t. ⊎_elim
       (λ (u : (r ≡ 0) × (s ≡ q) × (ds ≡ me.1)). ((λ _. λ i. (with_part v (u.1 i), u.2 i)), λ lacks. absurd (lacks u.0)))
@@ -183,9 +183,9 @@ module _ {T H W : Type 0} (l : Layout) (traced : Bool) (w : W) (begin : W → �
       ))
       (λ miss. (p, keeps, tt, subst (λ b. Core l traced w holds (set words pen_at (either b 1 r)) homes (set all n p)) (sym (ne_eqb r 0 miss)) (idle l traced w holds words homes all pen_at n p at c), inr (taken-by r c.writer c.pens.flag miss, refl, refl))))
 
-  pub read_number_keeps : (slots id : ℕ) (me : Me (Slot T) (View T H W)) → me.0.kind ≡ Member → me.0.part.pen ≡ Taken → Allows (IsKept l traced w begin holds) slots id me number_at (λ x. x) (read_number_tells (step slots number_at 0 0 none) me)
+  pub read_number_keeps : (slots id : ℕ) (me : Me (Slot T) (View T H W)) → me.0.kind ≡ Member → me.0.part.pen ≡ Taken → Allows (IsKept l traced w begin holds) slots id me number_at (λ x. x) (read_number_records (step slots number_at 0 0 none) me)
   read_number_keeps slots id me kind has = let v = me.0 in let n = v.number in let p = v.part in member_steps l traced w begin holds slots id number_at (λ x. x) v me.1
-      (λ r s ds. (s ≡ record p { pen = Read r }) × (ds ≡ me.1)) (read_number_tells (step slots number_at 0 0 none) me) kind
+      (λ r s ds. (s ≡ record p { pen = Read r }) × (ds ≡ me.1)) (read_number_records (step slots number_at 0 0 none) me) kind
       (λ r s ds t. idle-penned p s v.child (Read r) t.0)
       (λ r s ds world t. λ i. (with_part v (t.0 i), t.1 i))
       (λ words homes all c at small. let r : ℕ = get_or words number_at 0 in let len = c.sizes.words_wide in let q : Part T H = record p { pen = Read r } in let words' = set words number_at r in
@@ -198,9 +198,9 @@ module _ {T H W : Type 0} (l : Layout) (traced : Bool) (w : W) (begin : W → �
         (refl, refl),
       ))
 
-  pub write_number_keeps : (slots id k x : ℕ) (me : Me (Slot T) (View T H W)) → me.0.kind ≡ Member → me.0.part.pen ≡ Made k → x ≡ k + 1 → Allows (IsKept l traced w begin holds) slots id me number_at (λ _. x) (λ _. write_number_tells (step slots number_at x 0 none) me x)
+  pub write_number_keeps : (slots id k x : ℕ) (me : Me (Slot T) (View T H W)) → me.0.kind ≡ Member → me.0.part.pen ≡ Made k → x ≡ k + 1 → Allows (IsKept l traced w begin holds) slots id me number_at (λ _. x) (λ _. write_number_records (step slots number_at x 0 none) me x)
   write_number_keeps slots id k x me kind has next = let v = me.0 in let n = v.number in let p = v.part in let q : Part T H = record p { pen = Written } in member_steps l traced w begin holds slots id number_at (λ _. x) v me.1
-      (λ r s ds. (s ≡ q) × (ds ≡ me.1)) (λ _. write_number_tells (step slots number_at x 0 none) me x) kind
+      (λ r s ds. (s ≡ q) × (ds ≡ me.1)) (λ _. write_number_records (step slots number_at x 0 none) me x) kind
       (λ r s ds t. idle-penned p s v.child Written t.0)
       (λ r s ds world t. λ i. (with_part v (t.0 i), t.1 i))
       (λ words homes all c at small. let len = c.sizes.words_wide in let words' = set words number_at x in
@@ -213,9 +213,9 @@ module _ {T H W : Type 0} (l : Layout) (traced : Bool) (w : W) (begin : W → �
         (refl, refl),
       ))
 
-  pub give_pen_keeps : (slots id : ℕ) (me : Me (Slot T) (View T H W)) → me.0.kind ≡ Member → MayGivePen me.0.part.pen → Allows (IsKept l traced w begin holds) slots id me pen_at (λ _. 0) (give_pen_tells (step slots pen_at 0 0 none) me)
+  pub give_pen_keeps : (slots id : ℕ) (me : Me (Slot T) (View T H W)) → me.0.kind ≡ Member → MayGivePen me.0.part.pen → Allows (IsKept l traced w begin holds) slots id me pen_at (λ _. 0) (give_pen_records (step slots pen_at 0 0 none) me)
   give_pen_keeps slots id me kind may = let v = me.0 in let n = v.number in let p = v.part in let q : Part T H = record p { pen = No } in member_steps l traced w begin holds slots id pen_at (λ _. 0) v me.1
-      (λ r s ds. (r ≡ 1) × (s ≡ q) × (ds ≡ me.1)) (give_pen_tells (step slots pen_at 0 0 none) me) kind
+      (λ r s ds. (r ≡ 1) × (s ≡ q) × (ds ≡ me.1)) (give_pen_records (step slots pen_at 0 0 none) me) kind
       (λ r s ds t. idle-penned p s v.child No t.1)
       (λ r s ds world t. (t.0, λ i. (with_part v (t.1 i), t.2 i)))
       (λ words homes all c at small. let r : ℕ = get_or words pen_at 0 in let len = c.sizes.words_wide in let words' = set words pen_at 0 in

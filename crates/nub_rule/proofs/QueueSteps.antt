@@ -17,7 +17,7 @@ use Rattle.nub_rule.specs.declared.view.View.{View}
 use Rattle.nub_rule.specs.declared.view.Kind.TheVariants.{Member}
 use Rattle.nub_rule.specs.Items.{Core, Lines, Shows, Distinct}
 use Rattle.nub_rule.specs.Places.{length_at, spin_at, bit_at}
-use Rattle.nub_rule.specs.Plays.{Becomes, with_part, read_length_tells, push_gate_tells, take_out_tells, pop_gate_tells, tail_of, front, less}
+use Rattle.nub_rule.specs.Plays.{Becomes, with_part, read_length_records, push_gate_records, take_out_records, pop_gate_records, tail_of, front, less}
 use Rattle.nub_rule.specs.Rule.{IsKept}
 use Rattle.nub_rule.proofs.Each.{put-here, put-else, at_below}
 use Rattle.nub_rule.proofs.Idle.{idle-looked, idle-spun}
@@ -102,10 +102,10 @@ module _ {T H W : Type 0} (l : Layout) (traced : Bool) (w : W) (begin : W → �
       owes
       (begun-same words words all n p q at (λ k lo. refl) refl refl refl c.begun)
 
-  read_length_at : (slots id o : ℕ) (me : Me (Slot T) (View T H W)) → o < 192 → me.0.kind ≡ Member → Allows (IsKept l traced w begin holds) slots id me (length_at o) (λ x. x) (read_length_tells (step slots (length_at o) 0 0 none) me)
+  read_length_at : (slots id o : ℕ) (me : Me (Slot T) (View T H W)) → o < 192 → me.0.kind ≡ Member → Allows (IsKept l traced w begin holds) slots id me (length_at o) (λ x. x) (read_length_records (step slots (length_at o) 0 0 none) me)
   read_length_at slots id o me far kind = let v = me.0 in let n = v.number in let p = v.part in let i = length_at o in
       let Out : ℕ → Part T H → Type 0 = λ r q. (r ≡ 0 → q ≡ record p { cleared = without o p.cleared; looked = without o p.looked }) × (r ≢ 0 → mem o p.cleared ≡ true → q ≡ record p { looked = o ∷ p.looked }) × (r ≢ 0 → mem o p.cleared ≡ false → q ≡ p) in
-      member_steps l traced w begin holds slots id i (λ x. x) v me.1 (λ r q ds. Out r q × (ds ≡ me.1)) (read_length_tells (step slots i 0 0 none) me) kind
+      member_steps l traced w begin holds slots id i (λ x. x) v me.1 (λ r q ds. Out r q × (ds ≡ me.1)) (read_length_records (step slots i 0 0 none) me) kind
       (λ r q ds t. idle-looked p q v.child o r t.0)
       (λ r q ds world t k is. let e : o ≡ k = omega arith in subst (λ (k : ℕ). (r ≡ 0 → Becomes me (record p { cleared = without k p.cleared; looked = without k p.looked }) (with_part v q, ds)) × (r ≢ 0 → mem k p.cleared ≡ true → Becomes me (record p { looked = k ∷ p.looked }) (with_part v q, ds)) × (r ≢ 0 → mem k p.cleared ≡ false → (with_part v q, ds) ≡ me)) e
       ((λ hit j. (with_part v (t.0.0 hit j), t.1 j)), (λ miss is' j. (with_part v (t.0.1 miss is' j), t.1 j)), (λ miss out j. (with_part v (t.0.2 miss out j), t.1 j))))
@@ -115,15 +115,15 @@ module _ {T H W : Type 0} (l : Layout) (traced : Bool) (w : W) (begin : W → �
       [ true ↦ (λ is. (record p { looked = o ∷ p.looked }, keeps, tt, let q : Part T H = record p { looked = o ∷ p.looked } in notes n i p p.failed p.turns p.cleared (o ∷ p.looked) words homes all at c (owes-frame c.queue words words all n p q at (λ k lo. refl) refl refl refl c.owes), (((λ hit. absurd (miss hit)), (λ _ _. refl), (λ _ out. both_ways (mem o p.cleared) (sym is) out)), refl))) | false ↦ (λ is. (p, keeps, tt, notes n i p p.failed p.turns p.cleared p.looked words homes all at c (owes-frame c.queue words words all n p p at (λ k lo. refl) refl refl refl c.owes), (((λ hit. absurd (miss hit)), (λ _ is'. both_ways (mem o p.cleared) is' (sym is)), (λ _ _. refl)), refl))) ] refl))
 
   -- the same at a word that is this place
-  pub read_length_keeps : (slots id o : ℕ) (me : Me (Slot T) (View T H W)) (i : ℕ) → i ≡ length_at o → o < 192 → me.0.kind ≡ Member → Allows (IsKept l traced w begin holds) slots id me i (λ x. x) (read_length_tells (step slots i 0 0 none) me)
-  read_length_keeps slots id o me i word far kind = subst (λ (i : ℕ). Allows (IsKept l traced w begin holds) slots id me i (λ x. x) (read_length_tells (step slots i 0 0 none) me)) (sym word) (read_length_at slots id o me far kind)
+  pub read_length_keeps : (slots id o : ℕ) (me : Me (Slot T) (View T H W)) (i : ℕ) → i ≡ length_at o → o < 192 → me.0.kind ≡ Member → Allows (IsKept l traced w begin holds) slots id me i (λ x. x) (read_length_records (step slots i 0 0 none) me)
+  read_length_keeps slots id o me i word far kind = subst (λ (i : ℕ). Allows (IsKept l traced w begin holds) slots id me i (λ x. x) (read_length_records (step slots i 0 0 none) me)) (sym word) (read_length_at slots id o me far kind)
 
   push_gate_at : (slots id o r : ℕ) (me : Me (Slot T) (View T H W)) → o < 128 → me.0.kind ≡ Member → me.0.part.spin ≡ Some o → me.0.part.stand ≡ None → r ≡ length (me.0.part.queue ++ me.0.number ∷ [])
-      → Allows (IsKept l traced w begin holds) slots id me (length_at o) (λ _. r) (λ _. push_gate_tells (step slots (length_at o) r 0 none) me r)
+      → Allows (IsKept l traced w begin holds) slots id me (length_at o) (λ _. r) (λ _. push_gate_records (step slots (length_at o) r 0 none) me r)
   push_gate_at slots id o r me low kind here out long = let v = me.0 in let n = v.number in let p = v.part in let ys : List ℕ = p.queue ++ n ∷ [] in let st : Stand = record { at = o; stage = Pushed } in
       let q : Part T H = record p { queue = ys; left = p.left ++ n ∷ []; stand = Some st } in
-      subst (λ (z : ℕ). Allows (IsKept l traced w begin holds) slots id me (length_at o) (λ _. z) (λ _. push_gate_tells (step slots (length_at o) z 0 none) me z)) (sym long)
-      (member_steps l traced w begin holds slots id (length_at o) (λ _. length ys) v me.1 (λ x s ds. (s ≡ q) × (ds ≡ me.1)) (λ _. push_gate_tells (step slots (length_at o) (length ys) 0 none) me (length ys)) kind
+      subst (λ (z : ℕ). Allows (IsKept l traced w begin holds) slots id me (length_at o) (λ _. z) (λ _. push_gate_records (step slots (length_at o) z 0 none) me z)) (sym long)
+      (member_steps l traced w begin holds slots id (length_at o) (λ _. length ys) v me.1 (λ x s ds. (s ≡ q) × (ds ≡ me.1)) (λ _. push_gate_records (step slots (length_at o) (length ys) 0 none) me (length ys)) kind
       (λ x s ds t. idle-spun p s v.child o here (ap (λ (z : Part T H). z.life) t.0))
       (λ x s ds world t k is. let e : o ≡ k = omega arith in (λ i. (with_part v (t.0 i), t.1 i)) ∙ (λ i. (with_part v (record p { queue = ys; left = p.left ++ n ∷ []; stand = Some record { at = e i; stage = Pushed } }), me.1)))
       (λ words homes all c at small.
@@ -146,15 +146,15 @@ module _ {T H W : Type 0} (l : Layout) (traced : Bool) (w : W) (begin : W → �
 
   -- the same at a word that is this place
   pub push_gate_keeps : (slots id o r : ℕ) (me : Me (Slot T) (View T H W)) (i : ℕ) → i ≡ length_at o → o < 128 → me.0.kind ≡ Member → me.0.part.spin ≡ Some o → me.0.part.stand ≡ None → r ≡ length (me.0.part.queue ++ me.0.number ∷ [])
-      → Allows (IsKept l traced w begin holds) slots id me i (λ _. r) (λ _. push_gate_tells (step slots i r 0 none) me r)
-  push_gate_keeps slots id o r me i word low kind here out long = subst (λ (i : ℕ). Allows (IsKept l traced w begin holds) slots id me i (λ _. r) (λ _. push_gate_tells (step slots i r 0 none) me r)) (sym word) (push_gate_at slots id o r me low kind here out long)
+      → Allows (IsKept l traced w begin holds) slots id me i (λ _. r) (λ _. push_gate_records (step slots i r 0 none) me r)
+  push_gate_keeps slots id o r me i word low kind here out long = subst (λ (i : ℕ). Allows (IsKept l traced w begin holds) slots id me i (λ _. r) (λ _. push_gate_records (step slots i r 0 none) me r)) (sym word) (push_gate_at slots id o r me low kind here out long)
 
   take_out_at : (slots id o r : ℕ) (me : Me (Slot T) (View T H W)) (s : Stand) → o < 128 → me.0.kind ≡ Member → me.0.part.spin ≡ Some o → mem me.0.number me.0.part.queue ≡ true → r ≡ length (less me.0.number me.0.part.queue)
-      → Allows (IsKept l traced w begin holds) slots id me (length_at o) (λ _. r) (λ _. take_out_tells (step slots (length_at o) r 0 none) me r)
+      → Allows (IsKept l traced w begin holds) slots id me (length_at o) (λ _. r) (λ _. take_out_records (step slots (length_at o) r 0 none) me r)
   take_out_at slots id o r me s low kind here there long = let v = me.0 in let n = v.number in let p = v.part in let ys : List ℕ = less n p.queue in
       let q : Part T H = record p { queue = ys; left = less n p.left; stand = None; turns = o ∷ p.turns } in
-      subst (λ (z : ℕ). Allows (IsKept l traced w begin holds) slots id me (length_at o) (λ _. z) (λ _. take_out_tells (step slots (length_at o) z 0 none) me z)) (sym long)
-      (member_steps l traced w begin holds slots id (length_at o) (λ _. length ys) v me.1 (λ x s ds. (s ≡ q) × (ds ≡ me.1)) (λ _. take_out_tells (step slots (length_at o) (length ys) 0 none) me (length ys)) kind
+      subst (λ (z : ℕ). Allows (IsKept l traced w begin holds) slots id me (length_at o) (λ _. z) (λ _. take_out_records (step slots (length_at o) z 0 none) me z)) (sym long)
+      (member_steps l traced w begin holds slots id (length_at o) (λ _. length ys) v me.1 (λ x s ds. (s ≡ q) × (ds ≡ me.1)) (λ _. take_out_records (step slots (length_at o) (length ys) 0 none) me (length ys)) kind
       (λ x s ds t. idle-spun p s v.child o here (ap (λ (z : Part T H). z.life) t.0))
       (λ x s ds world t k is. let e : o ≡ k = omega arith in (λ i. (with_part v (t.0 i), t.1 i)) ∙ (λ i. (with_part v (record p { queue = ys; left = less n p.left; stand = None; turns = e i ∷ p.turns }), me.1)))
       (λ words homes all c at small.
@@ -180,15 +180,15 @@ module _ {T H W : Type 0} (l : Layout) (traced : Bool) (w : W) (begin : W → �
 
   -- the same at a word that is this place
   pub take_out_keeps : (slots id o r : ℕ) (me : Me (Slot T) (View T H W)) (s : Stand) (i : ℕ) → i ≡ length_at o → o < 128 → me.0.kind ≡ Member → me.0.part.spin ≡ Some o → mem me.0.number me.0.part.queue ≡ true → r ≡ length (less me.0.number me.0.part.queue)
-      → Allows (IsKept l traced w begin holds) slots id me i (λ _. r) (λ _. take_out_tells (step slots i r 0 none) me r)
-  take_out_keeps slots id o r me s i word low kind here there long = subst (λ (i : ℕ). Allows (IsKept l traced w begin holds) slots id me i (λ _. r) (λ _. take_out_tells (step slots i r 0 none) me r)) (sym word) (take_out_at slots id o r me s low kind here there long)
+      → Allows (IsKept l traced w begin holds) slots id me i (λ _. r) (λ _. take_out_records (step slots i r 0 none) me r)
+  take_out_keeps slots id o r me s i word low kind here there long = subst (λ (i : ℕ). Allows (IsKept l traced w begin holds) slots id me i (λ _. r) (λ _. take_out_records (step slots i r 0 none) me r)) (sym word) (take_out_at slots id o r me s low kind here there long)
 
   pop_gate_at : (slots id o r : ℕ) (me : Me (Slot T) (View T H W)) → o < 128 → me.0.kind ≡ Member → me.0.part.spin ≡ Some o → r ≡ length (tail_of me.0.part.queue)
-      → Allows (IsKept l traced w begin holds) slots id me (length_at o) (λ _. r) (λ _. pop_gate_tells (step slots (length_at o) r 0 none) me r)
+      → Allows (IsKept l traced w begin holds) slots id me (length_at o) (λ _. r) (λ _. pop_gate_records (step slots (length_at o) r 0 none) me r)
   pop_gate_at slots id o r me low kind here long = let v = me.0 in let n = v.number in let p = v.part in let ys : List ℕ = tail_of p.queue in
       let q : Part T H = record p { queue = ys; owed = p.owed ++ front p.queue; left = tail_of p.left; cleared = without o p.cleared; looked = without o p.looked } in
-      subst (λ (z : ℕ). Allows (IsKept l traced w begin holds) slots id me (length_at o) (λ _. z) (λ _. pop_gate_tells (step slots (length_at o) z 0 none) me z)) (sym long)
-      (member_steps l traced w begin holds slots id (length_at o) (λ _. length ys) v me.1 (λ x s ds. (s ≡ q) × (ds ≡ me.1)) (λ _. pop_gate_tells (step slots (length_at o) (length ys) 0 none) me (length ys)) kind
+      subst (λ (z : ℕ). Allows (IsKept l traced w begin holds) slots id me (length_at o) (λ _. z) (λ _. pop_gate_records (step slots (length_at o) z 0 none) me z)) (sym long)
+      (member_steps l traced w begin holds slots id (length_at o) (λ _. length ys) v me.1 (λ x s ds. (s ≡ q) × (ds ≡ me.1)) (λ _. pop_gate_records (step slots (length_at o) (length ys) 0 none) me (length ys)) kind
       (λ x s ds t. idle-spun p s v.child o here (ap (λ (z : Part T H). z.life) t.0))
       (λ x s ds world t k is. let e : o ≡ k = omega arith in (λ i. (with_part v (t.0 i), t.1 i)) ∙ (λ i. (with_part v (record p { queue = ys; owed = p.owed ++ front p.queue; left = tail_of p.left; cleared = without (e i) p.cleared; looked = without (e i) p.looked }), me.1)))
       (λ words homes all c at small.
@@ -214,5 +214,5 @@ module _ {T H W : Type 0} (l : Layout) (traced : Bool) (w : W) (begin : W → �
 
   -- the same at a word that is this place
   pub pop_gate_keeps : (slots id o r : ℕ) (me : Me (Slot T) (View T H W)) (i : ℕ) → i ≡ length_at o → o < 128 → me.0.kind ≡ Member → me.0.part.spin ≡ Some o → r ≡ length (tail_of me.0.part.queue)
-      → Allows (IsKept l traced w begin holds) slots id me i (λ _. r) (λ _. pop_gate_tells (step slots i r 0 none) me r)
-  pop_gate_keeps slots id o r me i word low kind here long = subst (λ (i : ℕ). Allows (IsKept l traced w begin holds) slots id me i (λ _. r) (λ _. pop_gate_tells (step slots i r 0 none) me r)) (sym word) (pop_gate_at slots id o r me low kind here long)
+      → Allows (IsKept l traced w begin holds) slots id me i (λ _. r) (λ _. pop_gate_records (step slots i r 0 none) me r)
+  pop_gate_keeps slots id o r me i word low kind here long = subst (λ (i : ℕ). Allows (IsKept l traced w begin holds) slots id me i (λ _. r) (λ _. pop_gate_records (step slots i r 0 none) me r)) (sym word) (pop_gate_at slots id o r me low kind here long)

@@ -12,9 +12,9 @@ use Rattle.nub_rule.specs.declared.view.Part.{Part}
 use Rattle.nub_rule.specs.declared.view.View.{View}
 use Rattle.nub_rule.specs.declared.view.Wait.{Wait}
 use Rattle.nub_rule.specs.declared.view.Kind.TheVariants.{Member}
-use Rattle.nub_rule.specs.Parts.{Got, MayTell, pending_of, waits_on}
+use Rattle.nub_rule.specs.Parts.{Got, MayRecord, pending_of, waits_on}
 use Rattle.nub_rule.specs.Places.{most_threads, alert_at, bit_at, count_at, sem_object, cond_object}
-use Rattle.nub_rule.specs.Plays.{Becomes, Grows, recorded, with_part, alert_raise_event, swap_alert_in_raise_tells}
+use Rattle.nub_rule.specs.Plays.{Becomes, Grows, recorded, with_part, alert_raise_event, swap_alert_in_raise_records}
 use Rattle.nub_rule.specs.Rule.{IsKept}
 use Rattle.nub_rule.proofs.Apart.{thread-of}
 use Rattle.nub_rule.proofs.Each.{put-here, put-else}
@@ -37,7 +37,7 @@ module _ {T H W : Type 0} (l : Layout) (traced : Bool) (w : W) (begin : W → �
   abbrev raised : ℕ → Wait → Part T H → List Event → Part T H
   raised n x p z = record (recorded p z (alert_raise_event n x.mutex.0 x.cond.0)) { wait = None; alerted = false }
 
-  raises_at : (n : ℕ) (p : Part T H) (cs : List (ℕ × Slot T)) (x : Wait) (y : T) → n < most_threads → (x.mutex.0 < l.mutexes) × (x.cond.0 < l.conditions) → p.wait ≡ Some x → x.alertable ≡ true → Got p x.mutex.0 y → p.stand ≡ None → p.alerted ≡ true → MayTell traced p.life p.pen
+  raises_at : (n : ℕ) (p : Part T H) (cs : List (ℕ × Slot T)) (x : Wait) (y : T) → n < most_threads → (x.mutex.0 < l.mutexes) × (x.cond.0 < l.conditions) → p.wait ≡ Some x → x.alertable ≡ true → Got p x.mutex.0 y → p.stand ≡ None → p.alerted ≡ true → MayRecord traced p.life p.pen
       → Steps l traced w begin holds n (alert_at n) (λ _. 0) p cs (λ r q ds. (r ≡ 1) × Learns (alert_raise_event n x.mutex.0 x.cond.0) n p (raised n x p) q × (ds ≡ cs))
   raises_at n p cs x y low named before alertable got apart seen may words homes all k at small =
       let m : ℕ = x.mutex.0 in
@@ -71,12 +71,12 @@ module _ {T H W : Type 0} (l : Layout) (traced : Bool) (w : W) (begin : W → �
       (done.0, keeps, tt, done.1, (one, done.2, refl))
 
   pub swap_alert_in_raise_keeps : (slots id m c : ℕ) (me : Me (Slot T) (View T H W)) (i : ℕ) (x : Wait) (y : T) → i ≡ alert_at me.0.number → me.0.number < most_threads → me.0.kind ≡ Member → (m < l.mutexes) × (c < l.conditions) → me.0.part.wait ≡ Some x → x.mutex.0 ≡ m → x.cond.0 ≡ c → x.alertable ≡ true
-      → Got me.0.part m y → me.0.part.stand ≡ None → me.0.part.alerted ≡ true → MayTell traced me.0.part.life me.0.part.pen → Allows (IsKept l traced w begin holds) slots id me i (λ _. 0) (swap_alert_in_raise_tells (step slots i 0 0 none) me)
-  swap_alert_in_raise_keeps slots id m c me i x y word low kind named before on_mutex on_cond alertable got apart seen may = subst (λ (i : ℕ). Allows (IsKept l traced w begin holds) slots id me i (λ _. 0) (swap_alert_in_raise_tells (step slots i 0 0 none) me)) (sym word) here
+      → Got me.0.part m y → me.0.part.stand ≡ None → me.0.part.alerted ≡ true → MayRecord traced me.0.part.life me.0.part.pen → Allows (IsKept l traced w begin holds) slots id me i (λ _. 0) (swap_alert_in_raise_records (step slots i 0 0 none) me)
+  swap_alert_in_raise_keeps slots id m c me i x y word low kind named before on_mutex on_cond alertable got apart seen may = subst (λ (i : ℕ). Allows (IsKept l traced w begin holds) slots id me i (λ _. 0) (swap_alert_in_raise_records (step slots i 0 0 none) me)) (sym word) here
     where
-      here : Allows (IsKept l traced w begin holds) slots id me (alert_at me.0.number) (λ _. 0) (swap_alert_in_raise_tells (step slots (alert_at me.0.number) 0 0 none) me)
+      here : Allows (IsKept l traced w begin holds) slots id me (alert_at me.0.number) (λ _. 0) (swap_alert_in_raise_records (step slots (alert_at me.0.number) 0 0 none) me)
       here = let v = me.0 in let n = v.number in let p = v.part in member_steps l traced w begin holds slots id (alert_at n) (λ _. 0) v me.1
-          (λ r q ds. (r ≡ 1) × Learns (alert_raise_event n x.mutex.0 x.cond.0) n p (raised n x p) q × (ds ≡ me.1)) (swap_alert_in_raise_tells (step slots (alert_at n) 0 0 none) me) kind
+          (λ r q ds. (r ≡ 1) × Learns (alert_raise_event n x.mutex.0 x.cond.0) n p (raised n x p) q × (ds ≡ me.1)) (swap_alert_in_raise_records (step slots (alert_at n) 0 0 none) me) kind
           (λ r q ds t. idle-live p q v.child may.0 (ap (λ (z : Part T H). z.life) t.1.2))
           (λ r q ds world t x' is. let same : x ≡ x' = same-wait x x' (sym before ∙ is) in
           subst (λ (z : Wait). (r ≡ 1) × (between : List Event) × Grows n p between (alert_raise_event n z.mutex.0 z.cond.0) × Becomes me (raised n z p (p.seen ++ between)) (with_part v q, ds)) same

@@ -20,7 +20,7 @@ use Rattle.nub_rule.specs.Items.{Core}
 use Rattle.nub_rule.specs.Parts.{staged, turned, IsFound, IsUntested, HasTested}
 use Rattle.nub_rule.specs.Places.{most_threads, bit_at, ready_at}
 use Rattle.nub_rule.specs.Owed.{IsAsleep}
-use Rattle.nub_rule.specs.Plays.{with_part, set_ready_tells, read_ready_tells, clear_ready_tells}
+use Rattle.nub_rule.specs.Plays.{with_part, set_ready_records, read_ready_records, clear_ready_records}
 use Rattle.nub_rule.specs.Rule.{IsKept}
 use Rattle.nub_rule.proofs.Apart.{thread-of}
 use Rattle.nub_rule.proofs.Each.{at_below, put-here, put-else}
@@ -40,10 +40,10 @@ inside_of (Some k) xs t h there = (k, refl)
 
 module _ {T H W : Type 0} (l : Layout) (traced : Bool) (w : W) (begin : W → ℕ → H) (holds : W → List T → List H → Type 0) where
   set_ready_at : (slots id t : ℕ) (me : Me (Slot T) (View T H W)) → t < most_threads → me.0.kind ≡ Member → (me.0.part.spin ≡ None → me.0.part.owed ≡ []) → ((o : ℕ) → me.0.part.spin ≡ Some o → o < 192) → mem t me.0.part.owed ≡ true
-      → Allows (IsKept l traced w begin holds) slots id me (ready_at t) (λ _. 1) (set_ready_tells (step slots (ready_at t) 1 0 none) me)
+      → Allows (IsKept l traced w begin holds) slots id me (ready_at t) (λ _. 1) (set_ready_records (step slots (ready_at t) 1 0 none) me)
   set_ready_at slots id t me low kind settled inside there = let v = me.0 in let n = v.number in let p = v.part in let q : Part T H = record p { owed = without t p.owed } in
       let spins = inside_of p.spin p.owed t settled there in let o = spins.0 in let here = spins.1 in let below = inside o here in
-      member_steps l traced w begin holds slots id (ready_at t) (λ _. 1) v me.1 (λ r s ds. (r ≡ 0) × (s ≡ q) × (ds ≡ me.1)) (set_ready_tells (step slots (ready_at t) 1 0 none) me) kind
+      member_steps l traced w begin holds slots id (ready_at t) (λ _. 1) v me.1 (λ r s ds. (r ≡ 0) × (s ≡ q) × (ds ≡ me.1)) (set_ready_records (step slots (ready_at t) 1 0 none) me) kind
       (λ r s ds u. idle-spun p s v.child o here (ap (λ (z : Part T H). z.life) u.1))
       (λ r s ds world u k few is. let e : t ≡ k = thread-of t k low few (omega arith) in (u.0, (λ i. (with_part v (u.1 i), u.2 i)) ∙ (λ i. (with_part v (record p { owed = without (e i) p.owed }), me.1))))
       (λ words homes all c at small.
@@ -100,10 +100,10 @@ module _ {T H W : Type 0} (l : Layout) (traced : Bool) (w : W) (begin : W → �
       (λ hit. (record p { stand = staged a p.stand }, keeps, tt, restages n i p s a words homes all at stood c (λ f. absurd (na f)) (λ _ _. untested) (λ f. absurd (sa f)), inl (hit, refl, refl)))
       (λ miss. (record p { stand = staged b p.stand }, keeps, tt, restages n i p s b words homes all at stood c (λ f. absurd (nb f)) (λ _ zero. absurd (miss ((λ j. get_or words (word j) 0) ∙ zero))) (λ f. absurd (sb f)), inr (miss, refl, refl))))
 
-  read_ready_at : (slots id : ℕ) (me : Me (Slot T) (View T H W)) (s : Stand) → me.0.kind ≡ Member → me.0.part.stand ≡ Some s → HasTested s.stage → me.0.part.cleared ≡ [] → Allows (IsKept l traced w begin holds) slots id me (ready_at me.0.number) (λ x. x) (read_ready_tells (step slots (ready_at me.0.number) 0 0 none) me)
+  read_ready_at : (slots id : ℕ) (me : Me (Slot T) (View T H W)) (s : Stand) → me.0.kind ≡ Member → me.0.part.stand ≡ Some s → HasTested s.stage → me.0.part.cleared ≡ [] → Allows (IsKept l traced w begin holds) slots id me (ready_at me.0.number) (λ x. x) (read_ready_records (step slots (ready_at me.0.number) 0 0 none) me)
   read_ready_at slots id me s kind stood tested looked = let v = me.0 in let n = v.number in let p = v.part in let i = ready_at n in
       member_steps l traced w begin holds slots id i (λ x. x) v me.1 (λ r q ds. ((r ≡ 0) × (q ≡ record p { stand = staged Asleep p.stand }) × (ds ≡ me.1)) ⊎ ((r ≡ 1) × (q ≡ record p { stand = staged Found p.stand }) × (ds ≡ me.1)))
-      (read_ready_tells (step slots i 0 0 none) me) kind
+      (read_ready_records (step slots i 0 0 none) me) kind
       (λ r q ds t. idle-stood p q v.child s stood (⊎_elim (λ (u : (r ≡ 0) × (q ≡ record p { stand = staged Asleep p.stand }) × (ds ≡ me.1)). ap (λ (z : Part T H). z.life) u.1) (λ (u : (r ≡ 1) × (q ≡ record p { stand = staged Found p.stand }) × (ds ≡ me.1)). ap (λ (z : Part T H). z.life) u.1) t))
       (λ r q ds world t. ⊎_elim
       (λ (u : (r ≡ 0) × (q ≡ record p { stand = staged Asleep p.stand }) × (ds ≡ me.1)). ((λ _. λ j. (with_part v (u.1 j), u.2 j)), λ miss. absurd (miss u.0)))
@@ -113,9 +113,9 @@ module _ {T H W : Type 0} (l : Layout) (traced : Bool) (w : W) (begin : W → �
       (λ (one : get_or words i 0 ≡ 1). (record p { stand = staged Found p.stand }, keeps, tt, restages n i p s Found words homes all at stood c (λ _. one) (λ u _. absurd (tested-not s.stage tested u)) (λ f. absurd f), inr (one, refl, refl)))
       (c.lines.stands n p at).flag)
 
-  clear_ready_at : (slots id : ℕ) (me : Me (Slot T) (View T H W)) (s : Stand) → me.0.number < most_threads → me.0.kind ≡ Member → me.0.part.stand ≡ Some s → IsFound s.stage → Allows (IsKept l traced w begin holds) slots id me (ready_at me.0.number) (λ _. 0) (clear_ready_tells (step slots (ready_at me.0.number) 0 0 none) me)
+  clear_ready_at : (slots id : ℕ) (me : Me (Slot T) (View T H W)) (s : Stand) → me.0.number < most_threads → me.0.kind ≡ Member → me.0.part.stand ≡ Some s → IsFound s.stage → Allows (IsKept l traced w begin holds) slots id me (ready_at me.0.number) (λ _. 0) (clear_ready_records (step slots (ready_at me.0.number) 0 0 none) me)
   clear_ready_at slots id me s low kind stood found = let v = me.0 in let n = v.number in let p = v.part in let i = ready_at n in let q : Part T H = record p { stand = None; turns = turned p.stand p.turns } in
-      member_steps l traced w begin holds slots id i (λ _. 0) v me.1 (λ r x ds. (r ≡ 1) × (x ≡ q) × (ds ≡ me.1)) (clear_ready_tells (step slots i 0 0 none) me) kind
+      member_steps l traced w begin holds slots id i (λ _. 0) v me.1 (λ r x ds. (r ≡ 1) × (x ≡ q) × (ds ≡ me.1)) (clear_ready_records (step slots i 0 0 none) me) kind
       (λ r x ds t. idle-stood p x v.child s stood (ap (λ (z : Part T H). z.life) t.1))
       (λ r x ds world t. (t.0, λ j. (with_part v (t.1 j), t.2 j)))
       (λ words homes all c at small. let words' : List ℕ = set words i 0 in let one = (c.lines.stands n p at).found s stood found in let wide = c.sizes.words_wide in (
@@ -135,11 +135,11 @@ module _ {T H W : Type 0} (l : Layout) (traced : Bool) (w : W) (begin : W → �
 
   -- the same at a word that is the ready word of the thread
   pub set_ready_keeps : (slots id i t : ℕ) (me : Me (Slot T) (View T H W)) → i ≡ ready_at t → t < most_threads → me.0.kind ≡ Member → (me.0.part.spin ≡ None → me.0.part.owed ≡ []) → ((o : ℕ) → me.0.part.spin ≡ Some o → o < 192) → mem t me.0.part.owed ≡ true
-      → Allows (IsKept l traced w begin holds) slots id me i (λ _. 1) (set_ready_tells (step slots i 1 0 none) me)
-  set_ready_keeps slots id i t me e low kind settled inside there = subst (λ (i : ℕ). Allows (IsKept l traced w begin holds) slots id me i (λ _. 1) (set_ready_tells (step slots i 1 0 none) me)) (sym e) (set_ready_at slots id t me low kind settled inside there)
+      → Allows (IsKept l traced w begin holds) slots id me i (λ _. 1) (set_ready_records (step slots i 1 0 none) me)
+  set_ready_keeps slots id i t me e low kind settled inside there = subst (λ (i : ℕ). Allows (IsKept l traced w begin holds) slots id me i (λ _. 1) (set_ready_records (step slots i 1 0 none) me)) (sym e) (set_ready_at slots id t me low kind settled inside there)
 
-  pub read_ready_keeps : (slots id i : ℕ) (me : Me (Slot T) (View T H W)) (s : Stand) → i ≡ ready_at me.0.number → me.0.kind ≡ Member → me.0.part.stand ≡ Some s → HasTested s.stage → me.0.part.cleared ≡ [] → Allows (IsKept l traced w begin holds) slots id me i (λ x. x) (read_ready_tells (step slots i 0 0 none) me)
-  read_ready_keeps slots id i me s e kind stood tested looked = subst (λ (i : ℕ). Allows (IsKept l traced w begin holds) slots id me i (λ x. x) (read_ready_tells (step slots i 0 0 none) me)) (sym e) (read_ready_at slots id me s kind stood tested looked)
+  pub read_ready_keeps : (slots id i : ℕ) (me : Me (Slot T) (View T H W)) (s : Stand) → i ≡ ready_at me.0.number → me.0.kind ≡ Member → me.0.part.stand ≡ Some s → HasTested s.stage → me.0.part.cleared ≡ [] → Allows (IsKept l traced w begin holds) slots id me i (λ x. x) (read_ready_records (step slots i 0 0 none) me)
+  read_ready_keeps slots id i me s e kind stood tested looked = subst (λ (i : ℕ). Allows (IsKept l traced w begin holds) slots id me i (λ x. x) (read_ready_records (step slots i 0 0 none) me)) (sym e) (read_ready_at slots id me s kind stood tested looked)
 
-  pub clear_ready_keeps : (slots id i : ℕ) (me : Me (Slot T) (View T H W)) (s : Stand) → i ≡ ready_at me.0.number → me.0.number < most_threads → me.0.kind ≡ Member → me.0.part.stand ≡ Some s → IsFound s.stage → Allows (IsKept l traced w begin holds) slots id me i (λ _. 0) (clear_ready_tells (step slots i 0 0 none) me)
-  clear_ready_keeps slots id i me s e low kind stood found = subst (λ (i : ℕ). Allows (IsKept l traced w begin holds) slots id me i (λ _. 0) (clear_ready_tells (step slots i 0 0 none) me)) (sym e) (clear_ready_at slots id me s low kind stood found)
+  pub clear_ready_keeps : (slots id i : ℕ) (me : Me (Slot T) (View T H W)) (s : Stand) → i ≡ ready_at me.0.number → me.0.number < most_threads → me.0.kind ≡ Member → me.0.part.stand ≡ Some s → IsFound s.stage → Allows (IsKept l traced w begin holds) slots id me i (λ _. 0) (clear_ready_records (step slots i 0 0 none) me)
+  clear_ready_keeps slots id i me s e low kind stood found = subst (λ (i : ℕ). Allows (IsKept l traced w begin holds) slots id me i (λ _. 0) (clear_ready_records (step slots i 0 0 none) me)) (sym e) (clear_ready_at slots id me s low kind stood found)

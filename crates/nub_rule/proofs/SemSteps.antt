@@ -21,9 +21,9 @@ use Rattle.nub_rule.specs.declared.view.Part.{Part}
 use Rattle.nub_rule.specs.declared.view.View.{View}
 use Rattle.nub_rule.specs.declared.view.Kind.TheVariants.{Member}
 use Rattle.nub_rule.specs.Items.{Says, Core}
-use Rattle.nub_rule.specs.Parts.{MayTell, pending_of}
+use Rattle.nub_rule.specs.Parts.{MayRecord, pending_of}
 use Rattle.nub_rule.specs.Places.{bit_at, count_at, alert_at, sem_object, cond_object}
-use Rattle.nub_rule.specs.Plays.{with_part, recorded, Grows, MayTakeSem, event, p_event, alert_p_event, p_action, v_event, try_p_tells, clear_sem_tells, Becomes}
+use Rattle.nub_rule.specs.Plays.{with_part, recorded, Grows, MayTakeSem, event, p_event, alert_p_event, p_action, v_event, try_p_records, clear_sem_records, Becomes}
 use Rattle.nub_rule.specs.Rule.{IsKept}
 use Rattle.nub_rule.proofs.Idle.{idle-live}
 use Rattle.nub_rule.proofs.Members.{member_steps}
@@ -64,7 +64,7 @@ p-acts false n s old lives idle free = (record { live = lives; order = idle; req
 
 module _ {T H W : Type 0} (l : Layout) (traced : Bool) (w : W) (begin : W → ℕ → H) (holds : W → List T → List H → Type 0) where
   -- an event by which the bit of the semaphore s becomes x
-  sem-marks : (e : Event) (n s x : ℕ) (b : Bool) (p : Part T H) (failed turns cleared : List ℕ) (words : List ℕ) (homes : List (Option (Slot T))) (all : List (Part T H)) (c : Core l traced w holds words homes all) → get_elem? all n ≡ some p → s < 64 → e.thread.0 ≡ n → IsNamed l e.action → MayTell traced p.life p.pen
+  sem-marks : (e : Event) (n s x : ℕ) (b : Bool) (p : Part T H) (failed turns cleared : List ℕ) (words : List ℕ) (homes : List (Option (Slot T))) (all : List (Part T H)) (c : Core l traced w holds words homes all) → get_elem? all n ≡ some p → s < 64 → e.thread.0 ≡ n → IsNamed l e.action → MayRecord traced p.life p.pen
       → Acts c.spec e (record c.spec { avail = put c.spec.avail s b }) → Says x (cond b false true)
       → ((q : Part T H) → q.stand ≡ p.stand → q.turns ≡ turns → q.cleared ≡ cleared → WakeOwed c.queue (set words (bit_at (sem_object s)) x) (set all n q))
       → Marked l traced w holds e n (bit_at (sem_object s)) x p (λ z. record (recorded p z e) { failed = failed; turns = turns; cleared = cleared }) words homes all
@@ -83,12 +83,12 @@ module _ {T H W : Type 0} (l : Layout) (traced : Bool) (w : W) (begin : W → �
   p-named true s low = low
   p-named false s low = low
 
-  try_p_at : (alertable : Bool) (slots id s : ℕ) (me : Me (Slot T) (View T H W)) → s < 64 → s < l.semaphores → me.0.kind ≡ Member → me.0.part.wait ≡ None → MayTell traced me.0.part.life me.0.part.pen
-      → Allows (IsKept l traced w begin holds) slots id me (bit_at (sem_object s)) (λ x. either (eqb x 0) 1 x) (try_p_tells (p_action alertable) (step slots (bit_at (sem_object s)) 0 1 none) me)
+  try_p_at : (alertable : Bool) (slots id s : ℕ) (me : Me (Slot T) (View T H W)) → s < 64 → s < l.semaphores → me.0.kind ≡ Member → me.0.part.wait ≡ None → MayRecord traced me.0.part.life me.0.part.pen
+      → Allows (IsKept l traced w begin holds) slots id me (bit_at (sem_object s)) (λ x. either (eqb x 0) 1 x) (try_p_records (p_action alertable) (step slots (bit_at (sem_object s)) 0 1 none) me)
   try_p_at alertable slots id s me low named kind out may = let v = me.0 in let n = v.number in let p = v.part in let o : ℕ = sem_object s in let e = event n (p_action alertable s) in
       member_steps l traced w begin holds slots id (bit_at o) (λ x. either (eqb x 0) 1 x) v me.1
       (λ r q ds. ((r ≡ 0) × Learns e n p (λ z. record (recorded p z e) { failed = without o p.failed; turns = without o p.turns; cleared = p.cleared }) q × (ds ≡ me.1)) ⊎ ((r ≢ 0) × (q ≡ record p { failed = o ∷ p.failed; turns = without o p.turns }) × (ds ≡ me.1)))
-      (try_p_tells (p_action alertable) (step slots (bit_at o) 0 1 none) me) kind
+      (try_p_records (p_action alertable) (step slots (bit_at o) 0 1 none) me) kind
       (λ r q ds t. idle-live p q v.child may.0 (⊎_elim (λ (u : (r ≡ 0) × Learns e n p (λ z. record (recorded p z e) { failed = without o p.failed; turns = without o p.turns; cleared = p.cleared }) q × (ds ≡ me.1)). ap (λ (z : Part T H). z.life) u.1.2) (λ (u : (r ≢ 0) × (q ≡ record p { failed = o ∷ p.failed; turns = without o p.turns }) × (ds ≡ me.1)). ap (λ (z : Part T H). z.life) u.1) t))
       (λ r q ds world t k is. let same : s ≡ k = omega arith in subst (λ (k : ℕ).
       (r ≡ 0 → (between : List Event) × Grows n p between (event n (p_action alertable k)) × Becomes me (record (recorded p (p.seen ++ between) (event n (p_action alertable k))) { failed = without (sem_object k) p.failed; turns = without (sem_object k) p.turns }) (with_part v q, ds))
@@ -116,15 +116,15 @@ module _ {T H W : Type 0} (l : Layout) (traced : Bool) (w : W) (begin : W → �
       )))
 
   -- the same at a word that is this place
-  pub try_p_keeps : (alertable : Bool) (slots id s : ℕ) (me : Me (Slot T) (View T H W)) (i : ℕ) → i ≡ bit_at (sem_object s) → s < 64 → s < l.semaphores → me.0.kind ≡ Member → me.0.part.wait ≡ None → MayTell traced me.0.part.life me.0.part.pen
-      → Allows (IsKept l traced w begin holds) slots id me i (λ x. either (eqb x 0) 1 x) (try_p_tells (p_action alertable) (step slots i 0 1 none) me)
-  try_p_keeps alertable slots id s me i word low named kind out may = subst (λ (i : ℕ). Allows (IsKept l traced w begin holds) slots id me i (λ x. either (eqb x 0) 1 x) (try_p_tells (p_action alertable) (step slots i 0 1 none) me)) (sym word) (try_p_at alertable slots id s me low named kind out may)
+  pub try_p_keeps : (alertable : Bool) (slots id s : ℕ) (me : Me (Slot T) (View T H W)) (i : ℕ) → i ≡ bit_at (sem_object s) → s < 64 → s < l.semaphores → me.0.kind ≡ Member → me.0.part.wait ≡ None → MayRecord traced me.0.part.life me.0.part.pen
+      → Allows (IsKept l traced w begin holds) slots id me i (λ x. either (eqb x 0) 1 x) (try_p_records (p_action alertable) (step slots i 0 1 none) me)
+  try_p_keeps alertable slots id s me i word low named kind out may = subst (λ (i : ℕ). Allows (IsKept l traced w begin holds) slots id me i (λ x. either (eqb x 0) 1 x) (try_p_records (p_action alertable) (step slots i 0 1 none) me)) (sym word) (try_p_at alertable slots id s me low named kind out may)
 
-  clear_sem_at : (slots id s : ℕ) (me : Me (Slot T) (View T H W)) → s < 64 → s < l.semaphores → me.0.kind ≡ Member → me.0.part.wait ≡ None → me.0.part.stand ≡ None → MayTell traced me.0.part.life me.0.part.pen
-      → Allows (IsKept l traced w begin holds) slots id me (bit_at (sem_object s)) (λ _. 0) (clear_sem_tells (step slots (bit_at (sem_object s)) 0 0 none) me)
+  clear_sem_at : (slots id s : ℕ) (me : Me (Slot T) (View T H W)) → s < 64 → s < l.semaphores → me.0.kind ≡ Member → me.0.part.wait ≡ None → me.0.part.stand ≡ None → MayRecord traced me.0.part.life me.0.part.pen
+      → Allows (IsKept l traced w begin holds) slots id me (bit_at (sem_object s)) (λ _. 0) (clear_sem_records (step slots (bit_at (sem_object s)) 0 0 none) me)
   clear_sem_at slots id s me low named kind out apart may = let v = me.0 in let n = v.number in let p = v.part in let o : ℕ = sem_object s in let e = v_event n s in
       member_steps l traced w begin holds slots id (bit_at o) (λ _. 0) v me.1
-      (λ r q ds. ((r ≡ 0) ⊎ (r ≡ 1)) × Learns e n p (λ z. record (recorded p z e) { failed = p.failed; turns = p.turns; cleared = o ∷ p.cleared }) q × (ds ≡ me.1)) (clear_sem_tells (step slots (bit_at o) 0 0 none) me) kind
+      (λ r q ds. ((r ≡ 0) ⊎ (r ≡ 1)) × Learns e n p (λ z. record (recorded p z e) { failed = p.failed; turns = p.turns; cleared = o ∷ p.cleared }) q × (ds ≡ me.1)) (clear_sem_records (step slots (bit_at o) 0 0 none) me) kind
       (λ r q ds t. idle-live p q v.child may.0 (ap (λ (z : Part T H). z.life) t.1.2))
       (λ r q ds world t k is. let same : s ≡ k = omega arith in subst (λ (k : ℕ). ((r ≡ 0) ⊎ (r ≡ 1)) × (between : List Event) × Grows n p between (v_event n k) × Becomes me (record (recorded p (p.seen ++ between) (v_event n k)) { cleared = sem_object k ∷ p.cleared }) (with_part v q, ds)) same
       (t.0, t.1.0, t.1.1, λ i. (with_part v (t.1.2 i), t.2 i)))
@@ -135,6 +135,6 @@ module _ {T H W : Type 0} (l : Layout) (traced : Bool) (w : W) (begin : W → �
       (m.0, keeps, tt, m.1, (says-flag (get_or words (bit_at o) 0) (cond (c.spec.avail s) false true) (c.shows.semaphores s low), m.2, refl)))
 
   -- the same at a word that is this place
-  pub clear_sem_keeps : (slots id s : ℕ) (me : Me (Slot T) (View T H W)) (i : ℕ) → i ≡ bit_at (sem_object s) → s < 64 → s < l.semaphores → me.0.kind ≡ Member → me.0.part.wait ≡ None → me.0.part.stand ≡ None → MayTell traced me.0.part.life me.0.part.pen
-      → Allows (IsKept l traced w begin holds) slots id me i (λ _. 0) (clear_sem_tells (step slots i 0 0 none) me)
-  clear_sem_keeps slots id s me i word low named kind out apart may = subst (λ (i : ℕ). Allows (IsKept l traced w begin holds) slots id me i (λ _. 0) (clear_sem_tells (step slots i 0 0 none) me)) (sym word) (clear_sem_at slots id s me low named kind out apart may)
+  pub clear_sem_keeps : (slots id s : ℕ) (me : Me (Slot T) (View T H W)) (i : ℕ) → i ≡ bit_at (sem_object s) → s < 64 → s < l.semaphores → me.0.kind ≡ Member → me.0.part.wait ≡ None → me.0.part.stand ≡ None → MayRecord traced me.0.part.life me.0.part.pen
+      → Allows (IsKept l traced w begin holds) slots id me i (λ _. 0) (clear_sem_records (step slots i 0 0 none) me)
+  clear_sem_keeps slots id s me i word low named kind out apart may = subst (λ (i : ℕ). Allows (IsKept l traced w begin holds) slots id me i (λ _. 0) (clear_sem_records (step slots i 0 0 none) me)) (sym word) (clear_sem_at slots id s me low named kind out apart may)

@@ -18,7 +18,7 @@ use Rattle.nub_rule.specs.declared.view.Kind.TheVariants.{Member}
 use Rattle.nub_rule.specs.Items.{Small, queue_of, Marks, Core}
 use Rattle.nub_rule.specs.Parts.{stands_at}
 use Rattle.nub_rule.specs.Places.{most_threads, bit_at, spin_at, queue_at, value_at}
-use Rattle.nub_rule.specs.Plays.{with_part, take_spin_tells, give_spin_tells}
+use Rattle.nub_rule.specs.Plays.{with_part, take_spin_records, give_spin_records}
 use Rattle.nub_rule.specs.Rule.{IsKept}
 use Rattle.nub_rule.proofs.Each.{at_within}
 use Rattle.nub_rule.proofs.Idle.{idle-live, idle-spun}
@@ -84,9 +84,9 @@ module _ {T H W : Type 0} (l : Layout) (traced : Bool) (w : W) (begin : W → �
       ))
       (λ miss. (p, keeps, tt, subst (λ b. Core l traced w holds (set words (spin_at o) (either b 1 r)) homes (set all n p)) (sym (ne_eqb r 0 miss)) (idle l traced w holds words homes all (spin_at o) n p at c), inr (taken-by r (c.spinner o) (s.spin o low) miss, refl, refl)))
 
-  take_spin_at : (slots id o : ℕ) (me : Me (Slot T) (View T H W)) → o < 192 → me.0.kind ≡ Member → me.0.part.life ≡ Live → me.0.part.spin ≡ None → Allows (IsKept l traced w begin holds) slots id me (spin_at o) (λ x. either (eqb x 0) 1 x) (take_spin_tells (step slots (spin_at o) 0 1 none) me)
+  take_spin_at : (slots id o : ℕ) (me : Me (Slot T) (View T H W)) → o < 192 → me.0.kind ≡ Member → me.0.part.life ≡ Live → me.0.part.spin ≡ None → Allows (IsKept l traced w begin holds) slots id me (spin_at o) (λ x. either (eqb x 0) 1 x) (take_spin_records (step slots (spin_at o) 0 1 none) me)
   take_spin_at slots id o me low kind live idle_there = let v = me.0 in let n = v.number in let p = v.part in member_steps l traced w begin holds slots id (spin_at o) (λ x. either (eqb x 0) 1 x) v me.1
-      (λ r q ds. ((r ≡ 0) × Spun n o p me.1 q ds) ⊎ ((r ≡ 1) × (q ≡ p) × (ds ≡ me.1))) (take_spin_tells (step slots (spin_at o) 0 1 none) me) kind
+      (λ r q ds. ((r ≡ 0) × Spun n o p me.1 q ds) ⊎ ((r ≡ 1) × (q ≡ p) × (ds ≡ me.1))) (take_spin_records (step slots (spin_at o) 0 1 none) me) kind
       (λ r q ds t. idle-live p q v.child live (⊎_elim (λ (u : (r ≡ 0) × Spun n o p me.1 q ds). ap (λ (z : Part T H). z.life) u.1.5) (λ (u : (r ≡ 1) × (q ≡ p) × (ds ≡ me.1)). ap (λ (z : Part T H). z.life) u.1) t))
       (λ r q ds world t. ⊎_elim
       (λ (u : (r ≡ 0) × Spun n o p me.1 q ds). (
@@ -98,13 +98,13 @@ module _ {T H W : Type 0} (l : Layout) (traced : Bool) (w : W) (begin : W → �
       (spins_at n o p me.1 low idle_there)
 
   -- the same at a word that is this place
-  pub take_spin_keeps : (slots id o : ℕ) (me : Me (Slot T) (View T H W)) (i : ℕ) → i ≡ spin_at o → o < 192 → me.0.kind ≡ Member → me.0.part.life ≡ Live → me.0.part.spin ≡ None → Allows (IsKept l traced w begin holds) slots id me i (λ x. either (eqb x 0) 1 x) (take_spin_tells (step slots i 0 1 none) me)
-  take_spin_keeps slots id o me i word low kind live idle_there = subst (λ (i : ℕ). Allows (IsKept l traced w begin holds) slots id me i (λ x. either (eqb x 0) 1 x) (take_spin_tells (step slots i 0 1 none) me)) (sym word) (take_spin_at slots id o me low kind live idle_there)
+  pub take_spin_keeps : (slots id o : ℕ) (me : Me (Slot T) (View T H W)) (i : ℕ) → i ≡ spin_at o → o < 192 → me.0.kind ≡ Member → me.0.part.life ≡ Live → me.0.part.spin ≡ None → Allows (IsKept l traced w begin holds) slots id me i (λ x. either (eqb x 0) 1 x) (take_spin_records (step slots i 0 1 none) me)
+  take_spin_keeps slots id o me i word low kind live idle_there = subst (λ (i : ℕ). Allows (IsKept l traced w begin holds) slots id me i (λ x. either (eqb x 0) 1 x) (take_spin_records (step slots i 0 1 none) me)) (sym word) (take_spin_at slots id o me low kind live idle_there)
 
   give_spin_at : (slots id o : ℕ) (me : Me (Slot T) (View T H W)) → o < 192 → me.0.kind ≡ Member → me.0.part.spin ≡ Some o → me.0.part.owed ≡ [] → me.0.part.left ≡ me.0.part.queue → me.1 ≡ (queue_at o, Queue (queue_of me.0.part.queue)) ∷ rest me.1
-      → Allows (IsKept l traced w begin holds) slots id me (spin_at o) (λ _. 0) (give_spin_tells (step slots (spin_at o) 0 0 none) me)
+      → Allows (IsKept l traced w begin holds) slots id me (spin_at o) (λ _. 0) (give_spin_records (step slots (spin_at o) 0 0 none) me)
   give_spin_at slots id o me low kind here none_owed even first = let v = me.0 in let n = v.number in let p = v.part in let q : Part T H = record p { spin = None; queue = []; left = [] } in
-      member_steps l traced w begin holds slots id (spin_at o) (λ _. 0) v me.1 (λ r s ds. (r ≡ 1) × (s ≡ q) × (ds ≡ rest me.1)) (give_spin_tells (step slots (spin_at o) 0 0 none) me) kind
+      member_steps l traced w begin holds slots id (spin_at o) (λ _. 0) v me.1 (λ r s ds. (r ≡ 1) × (s ≡ q) × (ds ≡ rest me.1)) (give_spin_records (step slots (spin_at o) 0 0 none) me) kind
       (λ r s ds t. idle-spun p s v.child o here (ap (λ (z : Part T H). z.life) t.1))
       (λ r s ds world t. (t.0, λ i. (with_part v (t.1 i), t.2 i)))
       (λ words homes all c at small.
@@ -132,5 +132,5 @@ module _ {T H W : Type 0} (l : Layout) (traced : Bool) (w : W) (begin : W → �
 
   -- the same at a word that is this place
   pub give_spin_keeps : (slots id o : ℕ) (me : Me (Slot T) (View T H W)) (i : ℕ) → i ≡ spin_at o → o < 192 → me.0.kind ≡ Member → me.0.part.spin ≡ Some o → me.0.part.owed ≡ [] → me.0.part.left ≡ me.0.part.queue → me.1 ≡ (queue_at o, Queue (queue_of me.0.part.queue)) ∷ rest me.1
-      → Allows (IsKept l traced w begin holds) slots id me i (λ _. 0) (give_spin_tells (step slots i 0 0 none) me)
-  give_spin_keeps slots id o me i word low kind here none_owed even first = subst (λ (i : ℕ). Allows (IsKept l traced w begin holds) slots id me i (λ _. 0) (give_spin_tells (step slots i 0 0 none) me)) (sym word) (give_spin_at slots id o me low kind here none_owed even first)
+      → Allows (IsKept l traced w begin holds) slots id me i (λ _. 0) (give_spin_records (step slots i 0 0 none) me)
+  give_spin_keeps slots id o me i word low kind here none_owed even first = subst (λ (i : ℕ). Allows (IsKept l traced w begin holds) slots id me i (λ _. 0) (give_spin_records (step slots i 0 0 none) me)) (sym word) (give_spin_at slots id o me low kind here none_owed even first)

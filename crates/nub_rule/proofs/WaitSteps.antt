@@ -22,7 +22,7 @@ use Rattle.nub_rule.specs.declared.view.Kind.TheVariants.{Member}
 use Rattle.nub_rule.specs.Items.{Core, Holders, Shows}
 use Rattle.nub_rule.specs.Parts.{Got, Lacks, waits_on, is_open, open_on, pending_of}
 use Rattle.nub_rule.specs.Places.{bit_at, value_at, queue_at}
-use Rattle.nub_rule.specs.Plays.{Becomes, MayFree, WonQuietly, with_part, opened, quieted, clear_bit_in_wait_tells, take_bit_quiet_tells}
+use Rattle.nub_rule.specs.Plays.{Becomes, MayFree, WonQuietly, with_part, opened, quieted, clear_bit_in_wait_records, take_bit_quiet_records}
 use Rattle.nub_rule.specs.Rule.{FitsAs, IsKept}
 use Rattle.nub_rule.proofs.Each.{at_within, at_below, each-set, put-at, put-else}
 use Rattle.nub_rule.proofs.Idle.{idle-waits}
@@ -123,14 +123,14 @@ module _ {T H W : Type 0} (l : Layout) (traced : Bool) (w : W) (begin : W → �
         )
 
     pub clear_bit_in_wait_keeps : (after : W → ℕ → ℕ → T → T → H → H) (slots id m : ℕ) (b : Wait) (me : Me (Slot T) (View T H W)) (i : ℕ) → i ≡ bit_at m → m < l.mutexes → me.0.kind ≡ Member → me.0.part.wait ≡ Some b → b.mutex.0 ≡ m → me.0.part.stand ≡ None → MayFree allows after m me
-        → Allows (IsKept l traced w begin holds) slots id me i (λ _. 0) (clear_bit_in_wait_tells after (step slots i 0 0 none) me)
-    clear_bit_in_wait_keeps after slots id m b me i word inside kind before on apart may = subst (λ (i : ℕ). Allows (IsKept l traced w begin holds) slots id me i (λ _. 0) (clear_bit_in_wait_tells after (step slots i 0 0 none) me)) (sym word) here
+        → Allows (IsKept l traced w begin holds) slots id me i (λ _. 0) (clear_bit_in_wait_records after (step slots i 0 0 none) me)
+    clear_bit_in_wait_keeps after slots id m b me i word inside kind before on apart may = subst (λ (i : ℕ). Allows (IsKept l traced w begin holds) slots id me i (λ _. 0) (clear_bit_in_wait_records after (step slots i 0 0 none) me)) (sym word) here
       where
-        here : Allows (IsKept l traced w begin holds) slots id me (bit_at m) (λ _. 0) (clear_bit_in_wait_tells after (step slots (bit_at m) 0 0 none) me)
+        here : Allows (IsKept l traced w begin holds) slots id me (bit_at m) (λ _. 0) (clear_bit_in_wait_records after (step slots (bit_at m) 0 0 none) me)
         here st r wide at small = let v = me.0 in let n = v.number in let p = v.part in let x : T = may.0 in let y : T = may.1 in
             let world : v.world ≡ Some w = (subst (FitsAs l.version l.threads r.given w begin r.all r.seat_of id v) kind (r.fits id v at)).world in
             let next = λ (s : H). after w m n x y s in
-            member_steps l traced w begin holds slots id (bit_at m) (λ _. 0) v me.1 (λ r q ds. (r ≡ 1) × Closes next m p me.1 q ds) (clear_bit_in_wait_tells after (step slots (bit_at m) 0 0 none) me) kind
+            member_steps l traced w begin holds slots id (bit_at m) (λ _. 0) v me.1 (λ r q ds. (r ≡ 1) × Closes next m p me.1 q ds) (clear_bit_in_wait_records after (step slots (bit_at m) 0 0 none) me) kind
             (λ r q ds t. idle-waits p q v.child b before (ap (λ (z : Part T H). z.life) t.1.2))
             (λ r q ds world' t' k is. let t = t'.1 in let same : m ≡ k = omega arith in
             subst (λ (k : ℕ). (r ≡ 1) × (u : Opt H) × ((let z : Me (Slot T) (View T H W) = (with_part v q, ds) in z) ≡ (with_part v (record p { held = set p.held k None; share = u; wait = opened p.wait; cleared = k ∷ p.cleared }), rest me.1))
@@ -191,12 +191,12 @@ module _ {T H W : Type 0} (l : Layout) (traced : Bool) (w : W) (begin : W → �
         (λ miss. (loser p m, keeps, tt, bit_missed l traced w begin holds n m p words homes all at far c miss, inr (miss, refl, refl)))
 
     pub take_bit_quiet_keeps : (slots id m : ℕ) (b : Wait) (me : Me (Slot T) (View T H W)) (i : ℕ) → i ≡ bit_at m → m < l.mutexes → me.0.kind ≡ Member → me.0.part.wait ≡ Some b → b.mutex.0 ≡ m
-        → Allows (IsKept l traced w begin holds) slots id me i (λ x. either (eqb x 0) 1 x) (take_bit_quiet_tells fits (step slots i 0 1 none) me)
-    take_bit_quiet_keeps slots id m b me i word inside kind before on = subst (λ (i : ℕ). Allows (IsKept l traced w begin holds) slots id me i (λ x. either (eqb x 0) 1 x) (take_bit_quiet_tells fits (step slots i 0 1 none) me)) (sym word) here
+        → Allows (IsKept l traced w begin holds) slots id me i (λ x. either (eqb x 0) 1 x) (take_bit_quiet_records fits (step slots i 0 1 none) me)
+    take_bit_quiet_keeps slots id m b me i word inside kind before on = subst (λ (i : ℕ). Allows (IsKept l traced w begin holds) slots id me i (λ x. either (eqb x 0) 1 x) (take_bit_quiet_records fits (step slots i 0 1 none) me)) (sym word) here
       where
-        here : Allows (IsKept l traced w begin holds) slots id me (bit_at m) (λ x. either (eqb x 0) 1 x) (take_bit_quiet_tells fits (step slots (bit_at m) 0 1 none) me)
+        here : Allows (IsKept l traced w begin holds) slots id me (bit_at m) (λ x. either (eqb x 0) 1 x) (take_bit_quiet_records fits (step slots (bit_at m) 0 1 none) me)
         here = let v = me.0 in let n = v.number in let p = v.part in member_steps l traced w begin holds slots id (bit_at m) (λ x. either (eqb x 0) 1 x) v me.1
-            (λ r q ds. ((r ≡ 0) × TakesQuietly fits m n p me.1 q ds) ⊎ ((r ≢ 0) × (q ≡ loser p m) × (ds ≡ me.1))) (take_bit_quiet_tells fits (step slots (bit_at m) 0 1 none) me) kind
+            (λ r q ds. ((r ≡ 0) × TakesQuietly fits m n p me.1 q ds) ⊎ ((r ≢ 0) × (q ≡ loser p m) × (ds ≡ me.1))) (take_bit_quiet_records fits (step slots (bit_at m) 0 1 none) me) kind
             (λ r q ds t. idle-waits p q v.child b before (⊎_elim (λ (u : (r ≡ 0) × TakesQuietly fits m n p me.1 q ds). ap (λ (z : Part T H). z.life) u.1.4) (λ (u : (r ≢ 0) × (q ≡ loser p m) × (ds ≡ me.1)). ap (λ (z : Part T H). z.life) u.1) t))
             (λ r q ds world t k is. let same : m ≡ k = omega arith in subst (λ (k : ℕ). (r ≡ 0 → WonQuietly fits k me (with_part v q, ds)) × (r ≢ 0 → Becomes me (loser p k) (with_part v q, ds))) same (⊎_elim
             (λ (u : (r ≡ 0) × TakesQuietly fits m n p me.1 q ds). (

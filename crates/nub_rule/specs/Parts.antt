@@ -115,8 +115,8 @@ made p = p
 
 -- an event is made by a thread that lives, and in a traced package by the thread with the pen, its
 -- number read and not the greatest
-abbrev pub MayTell : Bool → Life → Pen → Type 0
-MayTell traced life pen = (life ≡ Live) × (traced ≡ true → (k : ℕ) × (pen ≡ Read k) × (k < 18446744073709551615))
+abbrev pub MayRecord : Bool → Life → Pen → Type 0
+MayRecord traced life pen = (life ≡ Live) × (traced ≡ true → (k : ℕ) × (pen ≡ Read k) × (k < 18446744073709551615))
 
 -- the life word of a thread with this life
 abbrev pub number_of : Life → ℕ

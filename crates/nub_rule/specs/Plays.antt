@@ -167,8 +167,8 @@ module _ {T H W : Type 0} where
 
   -- the spin word of an object was tried: a thread that wins gets the queue, and is in it only if
   -- it stands there
-  abbrev pub take_spin_tells : Step (Slot T) → Sat T H W → ℕ → Sat T H W → Type 0
-  take_spin_tells st me r me' = let p = me.0.part in
+  abbrev pub take_spin_records : Step (Slot T) → Sat T H W → ℕ → Sat T H W → Type 0
+  take_spin_records st me r me' = let p = me.0.part in
       ((o : ℕ) → st.word ≡ spin_at o → r ≡ 0 → (xs : List ℕ) × (k : ℕ) × (p.stand ≡ None → length xs < most_threads) × Small most_threads xs
       × (mem me.0.number xs ≡ true → stands_at p.stand o ≡ true)
       × (me' ≡ (
@@ -177,23 +177,23 @@ module _ {T H W : Type 0} where
       ))) × (r ≢ 0 → (r ≡ 1) × (me' ≡ me))
 
   -- the spin word was given back
-  abbrev pub give_spin_tells : Step (Slot T) → Sat T H W → ℕ → Sat T H W → Type 0
-  give_spin_tells st me r me' = (r ≡ 1) × (me' ≡ (with_part me.0 (record me.0.part { spin = None; queue = []; left = [] }), rest me.1))
+  abbrev pub give_spin_records : Step (Slot T) → Sat T H W → ℕ → Sat T H W → Type 0
+  give_spin_records st me r me' = (r ≡ 1) × (me' ≡ (with_part me.0 (record me.0.part { spin = None; queue = []; left = [] }), rest me.1))
 
   -- a thread that was owed its ready word was made ready
-  abbrev pub set_ready_tells : Step (Slot T) → Sat T H W → ℕ → Sat T H W → Type 0
-  set_ready_tells st me r me' = let p = me.0.part in
+  abbrev pub set_ready_records : Step (Slot T) → Sat T H W → ℕ → Sat T H W → Type 0
+  set_ready_records st me r me' = let p = me.0.part in
       (t : ℕ) → t < most_threads → st.word ≡ ready_at t → (r ≡ 0) × Becomes me (record p { owed = without t p.owed }) me'
 
   -- the thread's own ready word was read
-  abbrev pub read_ready_tells : Step (Slot T) → Sat T H W → ℕ → Sat T H W → Type 0
-  read_ready_tells st me r me' = let p = me.0.part in
+  abbrev pub read_ready_records : Step (Slot T) → Sat T H W → ℕ → Sat T H W → Type 0
+  read_ready_records st me r me' = let p = me.0.part in
       (r ≡ 0 → Becomes me (record p { stand = staged Asleep p.stand }) me')
       × (r ≢ 0 → (r ≡ 1) × Becomes me (record p { stand = staged Found p.stand }) me')
 
   -- the thread's own ready word was cleared
-  abbrev pub clear_ready_tells : Step (Slot T) → Sat T H W → ℕ → Sat T H W → Type 0
-  clear_ready_tells st me r me' = let p = me.0.part in (r ≡ 1) × Becomes me (record p { stand = None; turns = turned p.stand p.turns }) me'
+  abbrev pub clear_ready_records : Step (Slot T) → Sat T H W → ℕ → Sat T H W → Type 0
+  clear_ready_records st me r me' = let p = me.0.part in (r ≡ 1) × Becomes me (record p { stand = None; turns = turned p.stand p.turns }) me'
 
   -- the mutex m was taken, with its value
   abbrev pub Won : (W → ℕ → T → ℕ → H → Type 0) → ℕ → Sat T H W → Sat T H W → Type 0
@@ -207,8 +207,8 @@ module _ {T H W : Type 0} where
       ))
 
   -- the bit of a mutex was tried
-  abbrev pub try_bit_tells : (W → ℕ → T → ℕ → H → Type 0) → Step (Slot T) → Sat T H W → ℕ → Sat T H W → Type 0
-  try_bit_tells fits st me r me' = let p = me.0.part in
+  abbrev pub try_bit_records : (W → ℕ → T → ℕ → H → Type 0) → Step (Slot T) → Sat T H W → ℕ → Sat T H W → Type 0
+  try_bit_records fits st me r me' = let p = me.0.part in
       (m : ℕ) → st.word ≡ bit_at m → (r ≡ 0 → Won fits m me me')
       × (r ≢ 0 → Becomes me (record p { failed = m ∷ p.failed; turns = without m p.turns }) me')
 
@@ -224,8 +224,8 @@ module _ {T H W : Type 0} where
       ))
 
   -- the bit of a mutex was tried in a wait, for no event
-  abbrev pub take_bit_quiet_tells : (W → ℕ → T → ℕ → H → Type 0) → Step (Slot T) → Sat T H W → ℕ → Sat T H W → Type 0
-  take_bit_quiet_tells fits st me r me' = let p = me.0.part in
+  abbrev pub take_bit_quiet_records : (W → ℕ → T → ℕ → H → Type 0) → Step (Slot T) → Sat T H W → ℕ → Sat T H W → Type 0
+  take_bit_quiet_records fits st me r me' = let p = me.0.part in
       (m : ℕ) → st.word ≡ bit_at m → (r ≡ 0 → WonQuietly fits m me me')
       × (r ≢ 0 → Becomes me (record p { failed = m ∷ p.failed; turns = without m p.turns }) me')
 
@@ -240,8 +240,8 @@ module _ {T H W : Type 0} where
       × ((w : W) (s : H) (x y : T) → v.world ≡ Some w → p.share ≡ Some s → Got p m x → me.1 ≡ (value_at m, Value (Some y)) ∷ rest me.1
       → u ≡ Some (after w m v.number x y s))
 
-  abbrev pub clear_bit_tells : (W → ℕ → ℕ → T → T → H → H) → Step (Slot T) → Sat T H W → ℕ → Sat T H W → Type 0
-  clear_bit_tells after st me r me' = (m : ℕ) → st.word ≡ bit_at m → Freed after m me r me'
+  abbrev pub clear_bit_records : (W → ℕ → ℕ → T → T → H → H) → Step (Slot T) → Sat T H W → ℕ → Sat T H W → Type 0
+  clear_bit_records after st me r me' = (m : ℕ) → st.word ≡ bit_at m → Freed after m me r me'
 
   -- the thread has the mutex, with its slot first, and a value that the new share allows
   abbrev pub MayFree : (W → ℕ → ℕ → T → T → H → H → Type 0) → (W → ℕ → ℕ → T → T → H → H) → ℕ → Sat T H W → Type 0
@@ -250,33 +250,33 @@ module _ {T H W : Type 0} where
       × ((w : W) (s : H) → v.world ≡ Some w → p.share ≡ Some s → allows w m v.number x y s (after w m v.number x y s))
 
   -- the length of a queue was read
-  abbrev pub read_length_tells : Step (Slot T) → Sat T H W → ℕ → Sat T H W → Type 0
-  read_length_tells st me r me' = let p = me.0.part in
+  abbrev pub read_length_records : Step (Slot T) → Sat T H W → ℕ → Sat T H W → Type 0
+  read_length_records st me r me' = let p = me.0.part in
       (o : ℕ) → st.word ≡ length_at o → (r ≡ 0 → Becomes me (record p { cleared = without o p.cleared; looked = without o p.looked }) me')
       × (r ≢ 0 → mem o p.cleared ≡ true → Becomes me (record p { looked = o ∷ p.looked }) me')
       × (r ≢ 0 → mem o p.cleared ≡ false → me' ≡ me)
 
   -- the thread was put at the end of the queue of a gate
-  abbrev pub push_gate_tells : Step (Slot T) → Sat T H W → ℕ → Sat T H W → Type 0
-  push_gate_tells st me r me' = let p = me.0.part in let n = me.0.number in
+  abbrev pub push_gate_records : Step (Slot T) → Sat T H W → ℕ → Sat T H W → Type 0
+  push_gate_records st me r me' = let p = me.0.part in let n = me.0.number in
       (o : ℕ) → st.word ≡ length_at o
       → Becomes me (record p { queue = p.queue ++ n ∷ []; left = p.left ++ n ∷ []; stand = Some record { at = o; stage = Pushed } }) me'
 
   -- the bit of the object at which the thread stands was read after the push
-  abbrev pub test_again_tells : Step (Slot T) → Sat T H W → ℕ → Sat T H W → Type 0
-  test_again_tells st me r me' = let p = me.0.part in
+  abbrev pub test_again_records : Step (Slot T) → Sat T H W → ℕ → Sat T H W → Type 0
+  test_again_records st me r me' = let p = me.0.part in
       (s : Stand) → p.stand ≡ Some s → st.word ≡ bit_at s.at → (r ≡ 0 → Becomes me (record p { stand = staged Clear p.stand }) me')
       × (r ≢ 0 → Becomes me (record p { stand = staged Tested p.stand }) me')
 
   -- the thread left the queue of a gate, in which it was
-  abbrev pub take_out_tells : Step (Slot T) → Sat T H W → ℕ → Sat T H W → Type 0
-  take_out_tells st me r me' = let p = me.0.part in let n = me.0.number in
+  abbrev pub take_out_records : Step (Slot T) → Sat T H W → ℕ → Sat T H W → Type 0
+  take_out_records st me r me' = let p = me.0.part in let n = me.0.number in
       (o : ℕ) → st.word ≡ length_at o
       → Becomes me (record p { queue = less n p.queue; left = less n p.left; stand = None; turns = o ∷ p.turns }) me'
 
   -- the first, if there is one, left the queue of a gate, and is owed its ready word
-  abbrev pub pop_gate_tells : Step (Slot T) → Sat T H W → ℕ → Sat T H W → Type 0
-  pop_gate_tells st me r me' = let p = me.0.part in (o : ℕ) → st.word ≡ length_at o
+  abbrev pub pop_gate_records : Step (Slot T) → Sat T H W → ℕ → Sat T H W → Type 0
+  pop_gate_records st me r me' = let p = me.0.part in (o : ℕ) → st.word ≡ length_at o
       → Becomes me (record p {
         queue = tail_of p.queue;
         owed = p.owed ++ front p.queue;
@@ -287,23 +287,23 @@ module _ {T H W : Type 0} where
       }) me'
 
   -- the bit of a semaphore was tried, by an event with this action
-  abbrev pub try_p_tells : (ℕ → Action) → Step (Slot T) → Sat T H W → ℕ → Sat T H W → Type 0
-  try_p_tells action st me r me' = let v = me.0 in let p = v.part in (s : ℕ) → st.word ≡ bit_at (sem_object s) → let o = sem_object s in
+  abbrev pub try_p_records : (ℕ → Action) → Step (Slot T) → Sat T H W → ℕ → Sat T H W → Type 0
+  try_p_records action st me r me' = let v = me.0 in let p = v.part in (s : ℕ) → st.word ≡ bit_at (sem_object s) → let o = sem_object s in
       let e = event v.number (action s) in
       (r ≡ 0 → (between : List Event) × Grows v.number p between e
       × Becomes me (record (recorded p (p.seen ++ between) e) { failed = without o p.failed; turns = without o p.turns }) me')
       × (r ≢ 0 → Becomes me (record p { failed = o ∷ p.failed; turns = without o p.turns }) me')
 
   -- the bit of a semaphore was cleared
-  abbrev pub clear_sem_tells : Step (Slot T) → Sat T H W → ℕ → Sat T H W → Type 0
-  clear_sem_tells st me r me' = let v = me.0 in let p = v.part in (s : ℕ) → st.word ≡ bit_at (sem_object s) → let e = v_event v.number s in
+  abbrev pub clear_sem_records : Step (Slot T) → Sat T H W → ℕ → Sat T H W → Type 0
+  clear_sem_records st me r me' = let v = me.0 in let p = v.part in (s : ℕ) → st.word ≡ bit_at (sem_object s) → let e = v_event v.number s in
       ((r ≡ 0) ⊎ (r ≡ 1)) × (between : List Event) × Grows v.number p between e
       × Becomes me (record (recorded p (p.seen ++ between) e) { cleared = sem_object s ∷ p.cleared }) me'
 
   -- the bit of the mutex m was cleared in a wait, and the value handed over: nobody holds m from
   -- the start of the wait
-  abbrev pub clear_bit_in_wait_tells : (W → ℕ → ℕ → T → T → H → H) → Step (Slot T) → Sat T H W → ℕ → Sat T H W → Type 0
-  clear_bit_in_wait_tells after st me r me' = let v = me.0 in let p = v.part in (m : ℕ) → st.word ≡ bit_at m
+  abbrev pub clear_bit_in_wait_records : (W → ℕ → ℕ → T → T → H → H) → Step (Slot T) → Sat T H W → ℕ → Sat T H W → Type 0
+  clear_bit_in_wait_records after st me r me' = let v = me.0 in let p = v.part in (m : ℕ) → st.word ≡ bit_at m
       → (r ≡ 1) × (u : Opt H) × (me'
       ≡ (
         with_part v (record p { held = slice_set p.held m None; share = u; wait = opened p.wait; cleared = m ∷ p.cleared }),
@@ -314,27 +314,27 @@ module _ {T H W : Type 0} where
 
   -- the count of the condition c was read to begin a wait, by a thread whose slot of the mutex m is
   -- first
-  abbrev pub load_count_tells : Bool → Step (Slot T) → Sat T H W → ℕ → Sat T H W → Type 0
-  load_count_tells alertable st me r me' = let v = me.0 in let p = v.part in
+  abbrev pub load_count_records : Bool → Step (Slot T) → Sat T H W → ℕ → Sat T H W → Type 0
+  load_count_records alertable st me r me' = let v = me.0 in let p = v.part in
       (m c : ℕ) (s : Slot T) → st.word ≡ count_at (cond_object c) → me.1 ≡ (value_at m, s) ∷ rest me.1
       → let e = enqueue_event alertable v.number m c in
       (between : List Event) × Grows v.number p between e
       × Becomes me (record (recorded p (p.seen ++ between) e) { wait = Some (begun_wait alertable m c r) }) me'
 
   -- the count was read under the spin word
-  abbrev pub know_count_tells : Step (Slot T) → Sat T H W → ℕ → Sat T H W → Type 0
-  know_count_tells st me r me' = (r ≡ me.0.part.count) × (me' ≡ me)
+  abbrev pub know_count_records : Step (Slot T) → Sat T H W → ℕ → Sat T H W → Type 0
+  know_count_records st me r me' = (r ≡ me.0.part.count) × (me' ≡ me)
 
   -- the count was read under the spin word in a wait, to compare it with the one that the wait began with
-  abbrev pub compare_count_tells : Step (Slot T) → Sat T H W → ℕ → Sat T H W → Type 0
-  compare_count_tells st me r me' = let p = me.0.part in
+  abbrev pub compare_count_records : Step (Slot T) → Sat T H W → ℕ → Sat T H W → Type 0
+  compare_count_records st me r me' = let p = me.0.part in
       (r ≡ p.count) × ((x : Wait) (k : ℕ) → p.wait ≡ Some x → x.member ≡ Some k → (r ≡ k → me' ≡ me)
       × (r ≢ k → Becomes me (record p { wait = unread p.wait }) me'))
 
   -- the thread, for which the count is still the same, was put at the end of the queue of a
   -- condition, where there is no bit to test
-  abbrev pub push_cond_tells : Step (Slot T) → Sat T H W → ℕ → Sat T H W → Type 0
-  push_cond_tells st me r me' = let p = me.0.part in let n = me.0.number in (o : ℕ) → st.word ≡ length_at o
+  abbrev pub push_cond_records : Step (Slot T) → Sat T H W → ℕ → Sat T H W → Type 0
+  push_cond_records st me r me' = let p = me.0.part in let n = me.0.number in (o : ℕ) → st.word ≡ length_at o
       → Becomes me (record p {
         queue = p.queue ++ n ∷ [];
         left = p.left ++ n ∷ [];
@@ -345,105 +345,105 @@ module _ {T H W : Type 0} where
 
   -- the first, if there is one, left the queue of a condition, and is owed its ready word: an
   -- advance had taken it out of the condition
-  abbrev pub pop_cond_tells : Step (Slot T) → Sat T H W → ℕ → Sat T H W → Type 0
-  pop_cond_tells st me r me' = let p = me.0.part in Becomes me (record p { queue = tail_of p.queue; owed = p.owed ++ front p.queue }) me'
+  abbrev pub pop_cond_records : Step (Slot T) → Sat T H W → ℕ → Sat T H W → Type 0
+  pop_cond_records st me r me' = let p = me.0.part in Becomes me (record p { queue = tail_of p.queue; owed = p.owed ++ front p.queue }) me'
 
   -- the thread left the queue of a condition, in which it was, and is in the condition by the
   -- present count
-  abbrev pub leave_cond_queue_tells : Step (Slot T) → Sat T H W → ℕ → Sat T H W → Type 0
-  leave_cond_queue_tells st me r me' = let p = me.0.part in let n = me.0.number in
+  abbrev pub leave_cond_queue_records : Step (Slot T) → Sat T H W → ℕ → Sat T H W → Type 0
+  leave_cond_queue_records st me r me' = let p = me.0.part in let n = me.0.number in
       Becomes me (record p { queue = less n p.queue; left = less n p.left; stand = None; wait = recounted p.count p.wait }) me'
 
   -- the count was advanced under the spin word, by an event with this action, and these threads of
   -- the queue were left in the condition
-  abbrev pub advance_tells : (List ℕ → List ℕ) → (ℕ → List ℕ → Action) → Step (Slot T) → Sat T H W → ℕ → Sat T H W → Type 0
-  advance_tells leave action st me r me' = let v = me.0 in let p = v.part in
+  abbrev pub advance_records : (List ℕ → List ℕ) → (ℕ → List ℕ → Action) → Step (Slot T) → Sat T H W → ℕ → Sat T H W → Type 0
+  advance_records leave action st me r me' = let v = me.0 in let p = v.part in
       (c : ℕ) → st.word ≡ count_at (cond_object c) → let ys = leave p.queue in let e = event v.number (action c ys) in
       (r ≡ p.count) × Distinct p.queue × (between : List Event) × Grows v.number p between e
       × Becomes me (record (recorded p (p.seen ++ between) e) { left = ys; count = p.count + 1; calling = None }) me'
 
   -- the waiters count of the condition c was raised
-  abbrev pub raise_waits_tells : Step (Slot T) → Sat T H W → ℕ → Sat T H W → Type 0
-  raise_waits_tells st me r me' = (c : ℕ) → st.word ≡ waits_at (cond_object c) → Becomes me (record me.0.part { raised = Some c }) me'
+  abbrev pub raise_waits_records : Step (Slot T) → Sat T H W → ℕ → Sat T H W → Type 0
+  raise_waits_records st me r me' = (c : ℕ) → st.word ≡ waits_at (cond_object c) → Becomes me (record me.0.part { raised = Some c }) me'
 
   -- and lowered
-  abbrev pub lower_waits_tells : Step (Slot T) → Sat T H W → ℕ → Sat T H W → Type 0
-  lower_waits_tells st me r me' = Becomes me (record me.0.part { raised = None }) me'
+  abbrev pub lower_waits_records : Step (Slot T) → Sat T H W → ℕ → Sat T H W → Type 0
+  lower_waits_records st me r me' = Becomes me (record me.0.part { raised = None }) me'
 
   -- the waiters count of the condition c was read: if it is 0, that is the event, which leaves no
   -- thread; otherwise a Signal or Broadcast is under way
-  abbrev pub read_waits_tells : (ℕ → List ℕ → Action) → Step (Slot T) → Sat T H W → ℕ → Sat T H W → Type 0
-  read_waits_tells action st me r me' = let v = me.0 in let p = v.part in
+  abbrev pub read_waits_records : (ℕ → List ℕ → Action) → Step (Slot T) → Sat T H W → ℕ → Sat T H W → Type 0
+  read_waits_records action st me r me' = let v = me.0 in let p = v.part in
       (c : ℕ) → st.word ≡ waits_at (cond_object c) → let e = event v.number (action c []) in
       (r ≡ 0 → (between : List Event) × Grows v.number p between e × Becomes me (recorded p (p.seen ++ between) e) me')
       × (r ≢ 0 → Becomes me (record p { calling = Some c }) me')
 
   -- the thread's own alert word was read
-  abbrev pub read_alert_tells : Step (Slot T) → Sat T H W → ℕ → Sat T H W → Type 0
-  read_alert_tells st me r me' = let p = me.0.part in
+  abbrev pub read_alert_records : Step (Slot T) → Sat T H W → ℕ → Sat T H W → Type 0
+  read_alert_records st me r me' = let p = me.0.part in
       (p.alerted ≡ true → r ≡ 1) × (r ≡ 0 → me' ≡ me)
       × (r ≢ 0 → (r ≡ 1) × Becomes me (record p { alerted = true; stand = alerted_stand p.stand }) me')
 
   -- the thread t was alerted
-  abbrev pub or_alert_tells : Step (Slot T) → Sat T H W → ℕ → Sat T H W → Type 0
-  or_alert_tells st me r me' = let v = me.0 in let p = v.part in
+  abbrev pub or_alert_records : Step (Slot T) → Sat T H W → ℕ → Sat T H W → Type 0
+  or_alert_records st me r me' = let v = me.0 in let p = v.part in
       (t : ℕ) → t < most_threads → st.word ≡ alert_at t → let e = alert_event v.number t in
       (between : List Event) × Grows v.number p between e × Becomes me (recorded p (p.seen ++ between) e) me'
 
   -- the thread's own alert word was cleared, by the event that says what it was
-  abbrev pub swap_alert_tells : Step (Slot T) → Sat T H W → ℕ → Sat T H W → Type 0
-  swap_alert_tells st me r me' = let v = me.0 in let p = v.part in let e = test_alert_event v.number (eqb r 1) in
+  abbrev pub swap_alert_records : Step (Slot T) → Sat T H W → ℕ → Sat T H W → Type 0
+  swap_alert_records st me r me' = let v = me.0 in let p = v.part in let e = test_alert_event v.number (eqb r 1) in
       ((r ≡ 0) ⊎ (r ≡ 1)) × (p.alerted ≡ true → r ≡ 1) × (between : List Event) × Grows v.number p between e
       × Becomes me (record (recorded p (p.seen ++ between) e) { alerted = false }) me'
 
   -- the thread's own alert word was cleared to raise out of a P of the semaphore s, which the mask
   -- names
-  abbrev pub swap_alert_in_p_tells : Step (Slot T) → Sat T H W → ℕ → Sat T H W → Type 0
-  swap_alert_in_p_tells st me r me' = let v = me.0 in let p = v.part in
+  abbrev pub swap_alert_in_p_records : Step (Slot T) → Sat T H W → ℕ → Sat T H W → Type 0
+  swap_alert_in_p_records st me r me' = let v = me.0 in let p = v.part in
       (s : ℕ) → st.first ≡ 2 * s → let e = alert_p_raise_event v.number s in
       (r ≡ 1) × (between : List Event) × Grows v.number p between e
       × Becomes me (record (recorded p (p.seen ++ between) e) { alerted = false }) me'
 
   -- the thread's own alert word was cleared to raise out of an alertable wait, with the bit of its
   -- mutex taken
-  abbrev pub swap_alert_in_raise_tells : Step (Slot T) → Sat T H W → ℕ → Sat T H W → Type 0
-  swap_alert_in_raise_tells st me r me' = let v = me.0 in let p = v.part in
+  abbrev pub swap_alert_in_raise_records : Step (Slot T) → Sat T H W → ℕ → Sat T H W → Type 0
+  swap_alert_in_raise_records st me r me' = let v = me.0 in let p = v.part in
       (x : Wait) → p.wait ≡ Some x → let e = alert_raise_event v.number x.mutex.0 x.cond.0 in
       (r ≡ 1) × (between : List Event) × Grows v.number p between e
       × Becomes me (record (recorded p (p.seen ++ between) e) { wait = None; alerted = false }) me'
 
   -- the thread left the queue of a semaphore, in which it was
-  abbrev pub leave_sem_queue_tells : Step (Slot T) → Sat T H W → ℕ → Sat T H W → Type 0
-  leave_sem_queue_tells st me r me' = let p = me.0.part in let n = me.0.number in
+  abbrev pub leave_sem_queue_records : Step (Slot T) → Sat T H W → ℕ → Sat T H W → Type 0
+  leave_sem_queue_records st me r me' = let p = me.0.part in let n = me.0.number in
       Becomes me (record p { queue = less n p.queue; left = less n p.left; stand = None; turns = left_turns p.stand p.turns }) me'
 
   -- the thread t, whose beginning is the own right, was forked: it is another than this one
-  abbrev pub fork_life_tells : Step (Slot T) → Sat T H W → ℕ → Sat T H W → Type 0
-  fork_life_tells st me r me' = let v = me.0 in let p = v.part in
+  abbrev pub fork_life_records : Step (Slot T) → Sat T H W → ℕ → Sat T H W → Type 0
+  fork_life_records st me r me' = let v = me.0 in let p = v.part in
       (t : ℕ) → t < most_threads → st.word ≡ life_at t → let e = fork_event v.number t in
       (t ≢ v.number) × (between : List Event) × Grows v.number p between e
       × (me' ≡ (record v { part = recorded p (p.seen ++ between) e; child = Forked t ((p.seen ++ between) ++ e ∷ []) }, me.1))
 
   -- the thread ended
-  abbrev pub end_life_tells : Step (Slot T) → Sat T H W → ℕ → Sat T H W → Type 0
-  end_life_tells st me r me' = let v = me.0 in let p = v.part in let e = end_event v.number in
+  abbrev pub end_life_records : Step (Slot T) → Sat T H W → ℕ → Sat T H W → Type 0
+  end_life_records st me r me' = let v = me.0 in let p = v.part in let e = end_event v.number in
       (between : List Event) × Grows v.number p between e × Becomes me (record (recorded p (p.seen ++ between) e) { life = Ended }) me'
 
   -- the life word of the thread t was read: if it has ended, that is the event
-  abbrev pub read_life_tells : Step (Slot T) → Sat T H W → ℕ → Sat T H W → Type 0
-  read_life_tells st me r me' = let v = me.0 in let p = v.part in
+  abbrev pub read_life_records : Step (Slot T) → Sat T H W → ℕ → Sat T H W → Type 0
+  read_life_records st me r me' = let v = me.0 in let p = v.part in
       (t : ℕ) → t < most_threads → st.word ≡ life_at t → let e = join_event v.number t in
       (r ≡ 2 → (between : List Event) × Grows v.number p between e × Becomes me (recorded p (p.seen ++ between) e) me') × (r ≢ 2 → me' ≡ me)
 
   -- the pen was tried, the number read and written, and the pen given back
-  abbrev pub take_pen_tells : Step (Slot T) → Sat T H W → ℕ → Sat T H W → Type 0
-  take_pen_tells st me r me' = (r ≡ 0 → Becomes me (record me.0.part { pen = Taken }) me') × (r ≢ 0 → (r ≡ 1) × (me' ≡ me))
+  abbrev pub take_pen_records : Step (Slot T) → Sat T H W → ℕ → Sat T H W → Type 0
+  take_pen_records st me r me' = (r ≡ 0 → Becomes me (record me.0.part { pen = Taken }) me') × (r ≢ 0 → (r ≡ 1) × (me' ≡ me))
 
-  abbrev pub read_number_tells : Step (Slot T) → Sat T H W → ℕ → Sat T H W → Type 0
-  read_number_tells st me r me' = Becomes me (record me.0.part { pen = Read r }) me'
+  abbrev pub read_number_records : Step (Slot T) → Sat T H W → ℕ → Sat T H W → Type 0
+  read_number_records st me r me' = Becomes me (record me.0.part { pen = Read r }) me'
 
-  abbrev pub write_number_tells : Step (Slot T) → Sat T H W → ℕ → Sat T H W → Type 0
-  write_number_tells st me r me' = Becomes me (record me.0.part { pen = Written }) me'
+  abbrev pub write_number_records : Step (Slot T) → Sat T H W → ℕ → Sat T H W → Type 0
+  write_number_records st me r me' = Becomes me (record me.0.part { pen = Written }) me'
 
-  abbrev pub give_pen_tells : Step (Slot T) → Sat T H W → ℕ → Sat T H W → Type 0
-  give_pen_tells st me r me' = (r ≡ 1) × Becomes me (record me.0.part { pen = No }) me'
+  abbrev pub give_pen_records : Step (Slot T) → Sat T H W → ℕ → Sat T H W → Type 0
+  give_pen_records st me r me' = (r ≡ 1) × Becomes me (record me.0.part { pen = No }) me'

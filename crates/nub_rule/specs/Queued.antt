@@ -14,19 +14,19 @@ use Rattle.nub_rule.specs.Plays.{Sat, Becomes}
 
 module _ {T H W : Type 0} where
   -- a step on the length word of the object o says that the part was changed by f
-  abbrev pub Tells : (Step (Slot T) → Sat T H W → ℕ → Sat T H W → Type 0) → ℕ → (ℕ → Part T H → Part T H) → Type 0
-  Tells tells o f = (st : Step (Slot T)) (me : Sat T H W) (r : ℕ) (me' : Sat T H W) → st.word ≡ length_at o → tells st me r me'
+  abbrev pub Records : (Step (Slot T) → Sat T H W → ℕ → Sat T H W → Type 0) → ℕ → (ℕ → Part T H → Part T H) → Type 0
+  Records records o f = (st : Step (Slot T)) (me : Sat T H W) (r : ℕ) (me' : Sat T H W) → st.word ≡ length_at o → records st me r me'
       → Becomes me (f me.0.number me.0.part) me'
 
   -- a thread that contracts see as k may write the length of zs, which the queue of the object o
   -- has become, and then has changed nothing by which it has slots. If it then stands nowhere,
   -- `nowhere` holds
-  pub record MayRequeue (rule : State (Slot T) (View T H W) → Type 0) (tells : Step (Slot T) → Sat T H W → ℕ → Sat T H W → Type 0)
+  pub record MayRequeue (rule : State (Slot T) (View T H W) → Type 0) (records : Step (Slot T) → Sat T H W → ℕ → Sat T H W → Type 0)
       (l : Layout) (k : Known T H W) (o : ℕ) (zs : List ℕ) (nowhere : Type 0) : Type 0 where
     pub allowed : IsLawful l → (slots id : ℕ) (me : Sat T H W) → me.0.kind ≡ Member → me.0.number ≡ k.number → me.0.part ≡ k.part
-        → Allows rule slots id me (length_at o) (λ _. length zs) (λ _. tells (step slots (length_at o) (length zs) 0 none) me (length zs))
+        → Allows rule slots id me (length_at o) (λ _. length zs) (λ _. records (step slots (length_at o) (length zs) 0 none) me (length zs))
     pub change : ℕ → Part T H → Part T H
-    pub recorded : Tells tells o change
+    pub recorded : Records records o change
     pub held : (change k.number k.part).held ≡ k.held
     pub spin : (change k.number k.part).spin ≡ k.spin
     pub queue : (change k.number k.part).queue ≡ zs
@@ -34,4 +34,4 @@ module _ {T H W : Type 0} where
 
   -- the thread was changed as the step says
   abbrev pub Requeued : (Step (Slot T) → Sat T H W → ℕ → Sat T H W → Type 0) → ℕ → Known T H W → Known T H W → Type 0
-  Requeued tells o a b = (f : ℕ → Part T H → Part T H) → Tells tells o f → b ≡ record a { part = f a.number a.part }
+  Requeued records o a b = (f : ℕ → Part T H → Part T H) → Records records o f → b ≡ record a { part = f a.number a.part }

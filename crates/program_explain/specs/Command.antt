@@ -19,8 +19,8 @@ NotesFor notes verdict.TooLong = Notes notes too_long_message
 NotesFor notes verdict.ReadFault = Notes notes input_fault_message
 
 -- the verdict is just, the output got its explanation, and the status and the notes are the verdict's
-abbrev pub Tells : Change → Change → Change → Status → Type 0
-Tells input out notes status =
+abbrev pub Explains : Change → Change → Change → Status → Type 0
+Explains input out notes status =
     (found : Verdict) × Finds input found × GotText budget input.old out.old out.new found × NotesFor notes found
     × (status ≡ status_of found) × (found ≢ verdict.ReadFault → input.now ≡ input.before)
 

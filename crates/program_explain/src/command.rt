@@ -2,7 +2,7 @@
 ghost use Rattle.std.specs.Prelude.{◌≡◌, ◌⊎◌};
 ghost use Rattle.command_endings.specs.Changes.{change_of};
 ghost use Rattle.command_check.specs.VerdictEndings.{status_of};
-ghost use Rattle.program_explain.specs.Command.{Fails, NotesFor, Tells};
+ghost use Rattle.program_explain.specs.Command.{Fails, NotesFor, Explains};
 
 use command_check::CHECK_BUDGET;
 use command_endings::{Ending, Status, ends};
@@ -30,7 +30,7 @@ pub fn explain_input<I: Source, O: Sink, N: Sink>(
     out: &mut O,
     notes: &mut N,
 ) -> Status
-    ensures { Tells (change_of I.left I.faults input.old input.new) (change_of O.held O.faults out.old out.new)
+    ensures { Explains (change_of I.left I.faults input.old input.new) (change_of O.held O.faults out.old out.new)
         (change_of N.held N.faults notes.old notes.new) result
         ⊎ Fails (change_of I.left I.faults input.old input.new) (change_of O.held O.faults out.old out.new)
         (change_of N.held N.faults notes.old notes.new) result }

@@ -1,5 +1,5 @@
 //! A run of rounds.
-use command_rounds::run_rounds;
+use command_rounds::play_rounds;
 use std::process::Abort;
 use std::test::Fail;
 
@@ -11,7 +11,7 @@ fn has_numbers(rt: &impl Abort, found: &[u64], expected: &[u64]) {
 // Three threads play two rounds: the totals are 6 and 12.
 #[test]
 fn three_threads(rt: HostRuntime) -> Result<(), Fail> {
-    let left = run_rounds(&rt, rt.alloc(), 3, 2)?;
+    let left = play_rounds(&rt, rt.alloc(), 3, 2)?;
     has_numbers(&rt, left.totals.as_slice(), &[6, 12]);
     drop(left);
     Ok(())

@@ -13,7 +13,7 @@ use Rattle.trace_check.specs.Watching.{IsNext, HasWatched}
 use Rattle.trace_board.specs.Tracked.{Tracked, tracked_after, tracked_since, extended}
 use Rattle.trace_board.proofs.Extended.{extended-push, length-extended}
 use Rattle.trace_board.proofs.Noting.{noted}
-use Rattle.trace_explain.specs.Explained.{IsFailure, IsTellable}
+use Rattle.trace_explain.specs.Explained.{IsFailure, IsExplainable}
 
 -- one more event
 pub finding_steps : (l : Layout) (es : List Event) (place : ℕ) (e : Event) (k k' : Tracked) → IsNext l es place e → k ≡ tracked_since (extended [] es) → k' ≡ tracked_after place e k → k' ≡ tracked_since (extended [] (es ++ e ∷ []))
@@ -44,10 +44,10 @@ module _ {W : Type 0} (keeps : W → Layout → List Event → W → Type 0) (bu
   failure_of left TooLong layout failed h = tt
   failure_of left ReadFault layout failed h = tt
 
-  pub tellable_of : (left : Option (List ℕ)) (v : Verdict) (layout : Option Layout) (failed : Option Event) → HasWatched keeps budget left w layout failed v w' → IsTellable v layout failed
-  tellable_of left (Illegal place why) None failed h = absurd (never_illegal place why h.2.0 h.2.1)
-  tellable_of left (Illegal place why) (Some l) failed h = let f = h.fails in (l, f.0, refl, f.1, noted l f.0 h.lawful f.2)
-  tellable_of left (Legal s) layout failed h = tt
-  tellable_of left (BadLine n) layout failed h = tt
-  tellable_of left TooLong layout failed h = tt
-  tellable_of left ReadFault layout failed h = tt
+  pub explainable_of : (left : Option (List ℕ)) (v : Verdict) (layout : Option Layout) (failed : Option Event) → HasWatched keeps budget left w layout failed v w' → IsExplainable v layout failed
+  explainable_of left (Illegal place why) None failed h = absurd (never_illegal place why h.2.0 h.2.1)
+  explainable_of left (Illegal place why) (Some l) failed h = let f = h.fails in (l, f.0, refl, f.1, noted l f.0 h.lawful f.2)
+  explainable_of left (Legal s) layout failed h = tt
+  explainable_of left (BadLine n) layout failed h = tt
+  explainable_of left TooLong layout failed h = tt
+  explainable_of left ReadFault layout failed h = tt

@@ -1,3 +1,3 @@
 pub mod Finding
-pub mod Telling
+pub mod Explaining
 pub mod Facing

@@ -38,6 +38,6 @@ IsFailure budget left (verdict.Illegal place why) k layout failed =
 IsFailure budget left _ k layout failed = Unit {0}
 
 -- of an event that fails: it is there, with its layout, and its names are small
-abbrev pub IsTellable : Verdict → Option Layout → Option Event → Type 0
-IsTellable (verdict.Illegal place why) layout failed = (l : Layout) × (e : Event) × (layout ≡ Some l) × (failed ≡ Some e) × IsNoted e
-IsTellable _ layout failed = Unit {0}
+abbrev pub IsExplainable : Verdict → Option Layout → Option Event → Type 0
+IsExplainable (verdict.Illegal place why) layout failed = (l : Layout) × (e : Event) × (layout ≡ Some l) × (failed ≡ Some e) × IsNoted e
+IsExplainable _ layout failed = Unit {0}

@@ -6,8 +6,8 @@ ghost use Rattle.trace_check.specs.declared.checker.Verdict.TheVariants as verdi
 ghost use Rattle.trace_check.specs.Verdicts.{IsJust};
 ghost use Rattle.trace_explain.specs.Explained.{GotText, GotPrefix};
 
+use crate::explain_verdict::explain_verdict;
 use crate::notes::Noting;
-use crate::tell::tell;
 use firefly_outside::{Sink, SinkFault, Source};
 use trace_board::board::TraceState;
 use trace_check::{Verdict, check_with};
@@ -59,5 +59,5 @@ fn explain_all<I: Source, O: Sink>(
         Ok(found) => found,
         Err(()) => unreachable!(),
     };
-    tell(&found, &noting.board, out)
+    explain_verdict(&found, &noting.board, out)
 }

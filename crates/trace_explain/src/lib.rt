@@ -5,12 +5,12 @@
 //! Stands on the check of trace_check, and what trace_board keeps of the events that it shows. It takes no memory.
 #![tactic(auto)]
 
+mod explain_verdict;
 mod explanation;
 mod facts;
 pub mod laws;
 mod notes;
 mod rules;
 mod sentences;
-mod tell;
 
 pub use explanation::explain;

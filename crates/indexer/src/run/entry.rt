@@ -9,7 +9,7 @@ ghost use Rattle.index_findings.specs.Visits.{AreFound, AreVisits};
 ghost use Rattle.walker.specs.Pile.{AreApart};
 ghost use Rattle.indexer.specs.Once.{EachOnce};
 ghost use Rattle.indexer.specs.Plans.{IsPlan, layout_of};
-ghost use Rattle.indexer.specs.Says.{AllTell, HasCause, IndexSays, TreesAfter, answer_of};
+ghost use Rattle.indexer.specs.Says.{AllShow, HasCause, IndexSays, TreesAfter, answer_of};
 
 use crate::answer::IndexAnswer;
 use crate::plan::Plan;
@@ -107,12 +107,12 @@ pub fn index<R: Threads + Wait + Sync, S: Tree, G: BeforeStart>(
     requires plan { IsPlan plan.now }
     requires trees { plan.now.walkers + plan.now.parsers < length trees.old }
     requires there { (k : ℕ) → k ≤ plan.now.walkers + plan.now.parsers → (s : S) × (slice_index_or trees.old k None ≡ Some s) }
-    requires tell { (o : Option Contents) × AllTell S.tree o trees.old }
-    ensures says { (o : Option Contents) → AllTell S.tree o trees.old → IndexSays o root.now plan.now result }
+    requires shows { (o : Option Contents) × AllShow S.tree o trees.old }
+    ensures says { (o : Option Contents) → AllShow S.tree o trees.old → IndexSays o root.now plan.now result }
     ensures cause { HasCause S.tree S.may_fail S.faults S.calls root.now trees.old trees.new result }
     ensures trees { TreesAfter S.tree S.may_fail S.faults S.calls plan.now.walkers
         (plan.now.walkers + plan.now.parsers) trees.old trees.new result }
-    ensures once { (o : Option Contents) → AllTell S.tree o trees.old
+    ensures once { (o : Option Contents) → AllShow S.tree o trees.old
         → EachOnce S.calls o root.now (plan.now.walkers + plan.now.parsers) trees.old trees.new result }
 {
     index_with(rt, alloc, root, plan, trees, before_start, MOST_WORKERS)
@@ -132,12 +132,12 @@ pub fn index_with<R: Threads + Wait + Sync, S: Tree, G: BeforeStart>(
     requires plan { IsPlan plan.now }
     requires trees { plan.now.walkers + plan.now.parsers < length trees.old }
     requires there { (k : ℕ) → k ≤ plan.now.walkers + plan.now.parsers → (s : S) × (slice_index_or trees.old k None ≡ Some s) }
-    requires tell { (o : Option Contents) × AllTell S.tree o trees.old }
-    ensures says { (o : Option Contents) → AllTell S.tree o trees.old → IndexSays o root.now plan.now result }
+    requires shows { (o : Option Contents) × AllShow S.tree o trees.old }
+    ensures says { (o : Option Contents) → AllShow S.tree o trees.old → IndexSays o root.now plan.now result }
     ensures cause { HasCause S.tree S.may_fail S.faults S.calls root.now trees.old trees.new result }
     ensures trees { TreesAfter S.tree S.may_fail S.faults S.calls plan.now.walkers
         (plan.now.walkers + plan.now.parsers) trees.old trees.new result }
-    ensures once { (o : Option Contents) → AllTell S.tree o trees.old
+    ensures once { (o : Option Contents) → AllShow S.tree o trees.old
         → EachOnce S.calls o root.now (plan.now.walkers + plan.now.parsers) trees.old trees.new result }
 {
     let Ok((closed, findings)) = worked_run(rt, alloc, root, plan, trees, before_start, starts)

@@ -4,7 +4,7 @@ ghost use Rattle.larch_actions.specs.Sets.{mem};
 ghost use Rattle.nub_rule.specs.declared.view.Wait.{Wait};
 ghost use Rattle.nub_rule.specs.declared.view.WaitBit.TheVariants.{Quiet};
 ghost use Rattle.nub_rule.specs.Known.{Holds, Makes, StandsAs, learnt};
-ghost use Rattle.nub_rule.specs.Parts.{IsClear, MayTell, alerted_stand, left_turns, made};
+ghost use Rattle.nub_rule.specs.Parts.{IsClear, MayRecord, alerted_stand, left_turns, made};
 ghost use Rattle.nub_rule.specs.Places.{sem_object};
 ghost use Rattle.nub_rule.specs.Plays.{alert_event, alert_p_raise_event, alert_raise_event, less, test_alert_event};
 
@@ -39,7 +39,7 @@ pub fn or_alert<U: Uses>(p: &Package<U>, me: &mut Thread<U>, t: ThreadId) -> u64
     requires of { me.old.table_id ≡ p.now.table_id }
     requires named { t.0 < p.now.layout.threads }
     requires outside { me.old.wait ≡ None }
-    requires pen { MayTell p.now.traced me.old.life me.old.pen }
+    requires pen { MayRecord p.now.traced me.old.life me.old.pen }
     ensures event { Makes (alert_event me.old.number t.0) me.old me.new }
     ensures alerted { me.new ≡ record me.old { part = record (learnt me.old.part me.new.part) { pen = made me.old.pen } } }
 {
@@ -54,7 +54,7 @@ pub fn or_alert<U: Uses>(p: &Package<U>, me: &mut Thread<U>, t: ThreadId) -> u64
 pub fn swap_alert<U: Uses>(p: &Package<U>, me: &mut Thread<U>) -> u64
     requires of { me.old.table_id ≡ p.now.table_id }
     requires outside { me.old.wait ≡ None }
-    requires pen { MayTell p.now.traced me.old.life me.old.pen }
+    requires pen { MayRecord p.now.traced me.old.life me.old.pen }
     ensures flag { (result ≡ 0) ⊎ (result ≡ 1) }
     ensures seen { me.old.alerted ≡ true → result ≡ 1 }
     ensures event { Makes (test_alert_event me.old.number (eqb result 1)) me.old me.new }
@@ -70,7 +70,7 @@ pub fn swap_alert_in_p<U: Uses>(p: &Package<U>, me: &mut Thread<U>, s: SemId) ->
     requires named { s.0 < p.now.layout.semaphores }
     requires outside { (me.old.wait ≡ None) × (me.old.stand ≡ None) }
     requires alerted { me.old.alerted ≡ true }
-    requires pen { MayTell p.now.traced me.old.life me.old.pen }
+    requires pen { MayRecord p.now.traced me.old.life me.old.pen }
     ensures found { result ≡ 1 }
     ensures event { Makes (alert_p_raise_event me.old.number s.0) me.old me.new }
     ensures cleared { me.new ≡ record me.old { part = record (learnt me.old.part me.new.part) { alerted = false; pen = made me.old.pen } } }
@@ -100,7 +100,7 @@ pub fn swap_alert_in_raise<U: Uses>(
     requires waits { (x : Wait) × (me.old.wait ≡ Some x) × (x.mutex.0 ≡ m.0) × (x.cond.0 ≡ c.0) × (x.alertable ≡ true) × (x.bit ≡ Quiet) }
     requires has { (x : U.Value) × Holds me.old m.0 x }
     requires alerted { me.old.alerted ≡ true }
-    requires pen { MayTell p.now.traced me.old.life me.old.pen }
+    requires pen { MayRecord p.now.traced me.old.life me.old.pen }
     ensures found { result ≡ 1 }
     ensures event { Makes (alert_raise_event me.old.number m.0 c.0) me.old me.new }
     ensures raised { me.new ≡ record me.old {

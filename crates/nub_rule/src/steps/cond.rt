@@ -5,7 +5,7 @@ ghost use Rattle.larch_actions.specs.Sets.{mem, set_of};
 ghost use Rattle.nub_rule.specs.declared.view.Wait.{Wait};
 ghost use Rattle.nub_rule.specs.Items.{Distinct, Small};
 ghost use Rattle.nub_rule.specs.Known.{Holds, Makes, StandsAs, learnt};
-ghost use Rattle.nub_rule.specs.Parts.{IsAlerted, MayTell, made};
+ghost use Rattle.nub_rule.specs.Parts.{IsAlerted, MayRecord, made};
 ghost use Rattle.nub_rule.specs.Places.{cond_object, most_threads};
 ghost use Rattle.nub_rule.specs.Plays.{begun_wait, tail_of, broadcast_action, enqueue_event, event, less, recounted, signal_action, unread};
 
@@ -33,7 +33,7 @@ pub fn load_count<U: Uses>(p: &Package<U>, me: &mut Thread<U>, m: MutexId, c: Co
     requires outside { me.old.wait ≡ None }
     requires even { me.old.left ≡ me.old.queue }
     requires raised { me.old.raised ≡ Some c.0 }
-    requires pen { MayTell p.now.traced me.old.life me.old.pen }
+    requires pen { MayRecord p.now.traced me.old.life me.old.pen }
     ensures event { Makes (enqueue_event false me.old.number m.0 c.0) me.old me.new }
     ensures begun { me.new ≡ record me.old {
       part = record (learnt me.old.part me.new.part)
@@ -60,7 +60,7 @@ pub fn load_count_alertable<U: Uses>(
     requires outside { me.old.wait ≡ None }
     requires even { me.old.left ≡ me.old.queue }
     requires raised { me.old.raised ≡ Some c.0 }
-    requires pen { MayTell p.now.traced me.old.life me.old.pen }
+    requires pen { MayRecord p.now.traced me.old.life me.old.pen }
     ensures event { Makes (enqueue_event true me.old.number m.0 c.0) me.old me.new }
     ensures begun { me.new ≡ record me.old {
       part = record (learnt me.old.part me.new.part)
@@ -95,7 +95,7 @@ pub fn advance_signal<U: Uses>(p: &Package<U>, me: &mut Thread<U>, c: CondId) ->
     requires even { me.old.left ≡ me.old.queue }
     requires small { Small most_threads me.old.queue }
     requires room { me.old.count < 18446744073709551615 }
-    requires pen { MayTell p.now.traced me.old.life me.old.pen }
+    requires pen { MayRecord p.now.traced me.old.life me.old.pen }
     ensures count { result.0 ≡ me.old.count }
     ensures left { result.1 ≡ set_of (tail_of me.old.queue) }
     ensures distinct { Distinct me.old.queue }
@@ -120,7 +120,7 @@ pub fn advance_broadcast<U: Uses>(p: &Package<U>, me: &mut Thread<U>, c: CondId)
     requires inside { me.old.spin ≡ Some (cond_object c.0) }
     requires outside { me.old.wait ≡ None }
     requires room { me.old.count < 18446744073709551615 }
-    requires pen { MayTell p.now.traced me.old.life me.old.pen }
+    requires pen { MayRecord p.now.traced me.old.life me.old.pen }
     ensures count { result ≡ me.old.count }
     ensures event { Makes (event me.old.number (broadcast_action c.0 [])) me.old me.new }
     ensures advanced { me.new ≡ record me.old {

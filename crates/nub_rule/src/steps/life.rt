@@ -5,7 +5,7 @@ ghost use Rattle.larch_actions.specs.declared.event.Life.TheVariants.{Ended};
 ghost use Rattle.larch_actions.specs.declared.event.Version.TheVariants.{Two};
 ghost use Rattle.nub_rule.specs.declared.view.Child.TheVariants.{No, May, Forked};
 ghost use Rattle.nub_rule.specs.Known.{Makes, learnt};
-ghost use Rattle.nub_rule.specs.Parts.{HasNothing, MayTell, made};
+ghost use Rattle.nub_rule.specs.Parts.{HasNothing, MayRecord, made};
 ghost use Rattle.nub_rule.specs.Places.{most_threads};
 ghost use Rattle.nub_rule.specs.Plays.{end_event, fork_event, join_event};
 
@@ -23,7 +23,7 @@ pub fn fork_life<U: Uses>(p: &Package<U>, me: &mut Thread<U>, who: ThreadId)
     requires child { me.old.child ≡ May who.0 }
     requires few { who.0 < most_threads }
     requires outside { me.old.wait ≡ None }
-    requires pen { MayTell p.now.traced me.old.life me.old.pen }
+    requires pen { MayRecord p.now.traced me.old.life me.old.pen }
     ensures apart { who.0 ≢ me.old.number }
     ensures event { Makes (fork_event me.old.number who.0) me.old me.new }
     ensures forked { me.new ≡ record me.old {
@@ -42,7 +42,7 @@ pub fn end_life<U: Uses>(p: &Package<U>, me: &mut Thread<U>)
     requires version { p.now.layout.version ≡ Two }
     requires nothing { HasNothing me.old.part }
     requires childless { me.old.child ≡ No }
-    requires pen { MayTell p.now.traced me.old.life me.old.pen }
+    requires pen { MayRecord p.now.traced me.old.life me.old.pen }
     ensures event { Makes (end_event me.old.number) me.old me.new }
     ensures ended { me.new ≡ record me.old { part = record (learnt me.old.part me.new.part) { pen = made me.old.pen; life = Ended } } }
 {
@@ -55,7 +55,7 @@ pub fn read_life<U: Uses>(p: &Package<U>, me: &mut Thread<U>, who: ThreadId) -> 
     requires of { me.old.table_id ≡ p.now.table_id }
     requires named { who.0 < p.now.layout.threads }
     requires outside { me.old.wait ≡ None }
-    requires pen { MayTell p.now.traced me.old.life me.old.pen }
+    requires pen { MayRecord p.now.traced me.old.life me.old.pen }
     ensures event { result ≡ 2 → Makes (join_event me.old.number who.0) me.old me.new }
     ensures joined { result ≡ 2 → me.new ≡ record me.old { part = record (learnt me.old.part me.new.part) { pen = made me.old.pen } } }
     ensures waits { result ≢ 2 → me.new ≡ me.old }

@@ -6,7 +6,7 @@ ghost use Rattle.larch_actions.specs.Sets.{without};
 ghost use Rattle.nub_rule.specs.declared.view.Wait.{Wait};
 ghost use Rattle.nub_rule.specs.declared.view.WaitBit.TheVariants.{Closing, Open};
 ghost use Rattle.nub_rule.specs.Known.{Holds, IsIn, IsOut, Makes, MayGive, PicksShare, learnt};
-ghost use Rattle.nub_rule.specs.Parts.{MayTell, made};
+ghost use Rattle.nub_rule.specs.Parts.{MayRecord, made};
 ghost use Rattle.nub_rule.specs.Plays.{MayTake, opened, quieted, release_event};
 
 use crate::package::{Package, Thread};
@@ -25,7 +25,7 @@ pub fn try_bit<U: Uses>(p: &Package<U>, me: &mut Thread<U>, m: MutexId, e: Event
     requires named { m.0 < p.now.layout.mutexes }
     requires outside { (me.old.spin ≡ None) × (me.old.stand ≡ None) }
     requires may { MayTake me.old.number m.0 me.old.wait e }
-    requires pen { MayTell p.now.traced me.old.life me.old.pen }
+    requires pen { MayRecord p.now.traced me.old.life me.old.pen }
     ensures lost { result ≢ 0 → me.new ≡ record me.old {
       part = record me.old.part
           { failed = m.0 ∷ me.old.failed; turns = without m.0 me.old.turns };
@@ -60,7 +60,7 @@ pub fn clear_bit<U: Uses, C: Change<U>>(p: &Package<U>, me: &mut Thread<U>, m: M
     requires named { m.0 < p.now.layout.mutexes }
     requires outside { (me.old.wait ≡ None) × (me.old.stand ≡ None) }
     requires may { MayGive U.allows C.after m.0 me.old }
-    requires pen { MayTell p.now.traced me.old.life me.old.pen }
+    requires pen { MayRecord p.now.traced me.old.life me.old.pen }
     ensures found { result ≡ 1 }
     ensures event { Makes (release_event me.old.number m.0) me.old me.new }
     ensures gone { me.new ≡ record me.old {

@@ -2,7 +2,7 @@
 ghost use Rattle.std.specs.Prelude.{◌≡◌, ◌≢◌, ◌⊎◌, ◌<◌, ◌∷◌, None};
 ghost use Rattle.larch_actions.specs.Sets.{without};
 ghost use Rattle.nub_rule.specs.Known.{Makes, learnt};
-ghost use Rattle.nub_rule.specs.Parts.{MayTell, made};
+ghost use Rattle.nub_rule.specs.Parts.{MayRecord, made};
 ghost use Rattle.nub_rule.specs.Places.{sem_object};
 ghost use Rattle.nub_rule.specs.Plays.{MayTakeSem, v_event};
 
@@ -20,7 +20,7 @@ pub fn try_p<U: Uses>(p: &Package<U>, me: &mut Thread<U>, s: SemId, e: Event) ->
     requires named { s.0 < p.now.layout.semaphores }
     requires outside { (me.old.spin ≡ None) × (me.old.stand ≡ None) }
     requires may { (me.old.wait ≡ None) × MayTakeSem me.old.number s.0 e }
-    requires pen { MayTell p.now.traced me.old.life me.old.pen }
+    requires pen { MayRecord p.now.traced me.old.life me.old.pen }
     ensures lost { result ≢ 0 → me.new ≡ record me.old {
       part = record me.old.part
           { failed = sem_object s.0 ∷ me.old.failed; turns = without (sem_object s.0) me.old.turns };
@@ -51,7 +51,7 @@ pub fn clear_sem<U: Uses>(p: &Package<U>, me: &mut Thread<U>, s: SemId) -> u64
     requires of { me.old.table_id ≡ p.now.table_id }
     requires named { s.0 < p.now.layout.semaphores }
     requires outside { (me.old.wait ≡ None) × (me.old.stand ≡ None) }
-    requires pen { MayTell p.now.traced me.old.life me.old.pen }
+    requires pen { MayRecord p.now.traced me.old.life me.old.pen }
     ensures found { (result ≡ 0) ⊎ (result ≡ 1) }
     ensures event { Makes (v_event me.old.number s.0) me.old me.new }
     ensures cleared { me.new ≡ record me.old {

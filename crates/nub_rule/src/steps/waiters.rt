@@ -5,7 +5,7 @@ ghost use Rattle.std.specs.Prelude.{◌≡◌, ◌≢◌, ◌<◌, ℕ, [], Some
 ghost use Rattle.larch_actions.specs.declared.event.Life.TheVariants.{Live};
 ghost use Rattle.nub_rule.specs.declared.view.Wait.{Wait};
 ghost use Rattle.nub_rule.specs.Known.{Makes, learnt};
-ghost use Rattle.nub_rule.specs.Parts.{MayTell, made};
+ghost use Rattle.nub_rule.specs.Parts.{MayRecord, made};
 ghost use Rattle.nub_rule.specs.Plays.{broadcast_action, event, signal_action};
 
 use crate::package::{Package, Thread};
@@ -48,7 +48,7 @@ pub fn read_waits_signal<U: Uses>(p: &Package<U>, me: &mut Thread<U>, c: CondId)
     requires of { me.old.table_id ≡ p.now.table_id }
     requires named { c.0 < p.now.layout.conditions }
     requires outside { me.old.wait ≡ None }
-    requires pen { MayTell p.now.traced me.old.life me.old.pen }
+    requires pen { MayRecord p.now.traced me.old.life me.old.pen }
     ensures event { result ≡ 0 → Makes (event me.old.number (signal_action c.0 [])) me.old me.new }
     ensures quiet { result ≡ 0 → me.new ≡ record me.old { part = record (learnt me.old.part me.new.part) { pen = made me.old.pen } } }
     ensures calls { result ≢ 0 → me.new ≡ record me.old { part = record me.old.part { calling = Some c.0 } } }
@@ -63,7 +63,7 @@ pub fn read_waits_broadcast<U: Uses>(p: &Package<U>, me: &mut Thread<U>, c: Cond
     requires of { me.old.table_id ≡ p.now.table_id }
     requires named { c.0 < p.now.layout.conditions }
     requires outside { me.old.wait ≡ None }
-    requires pen { MayTell p.now.traced me.old.life me.old.pen }
+    requires pen { MayRecord p.now.traced me.old.life me.old.pen }
     ensures event { result ≡ 0 → Makes (event me.old.number (broadcast_action c.0 [])) me.old me.new }
     ensures quiet { result ≡ 0 → me.new ≡ record me.old { part = record (learnt me.old.part me.new.part) { pen = made me.old.pen } } }
     ensures calls { result ≢ 0 → me.new ≡ record me.old { part = record me.old.part { calling = Some c.0 } } }

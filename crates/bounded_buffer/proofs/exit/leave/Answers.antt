@@ -6,14 +6,14 @@ use Rattle.nub_rule.specs.Plays.{event, release_event, signal_action}
 use Rattle.nub.specs.Rest.{Adds}
 use Rattle.nub.proofs.Holding.{held_back}
 use Rattle.nub.proofs.Users.{idle_again, same_on}
-use Rattle.bounded_buffer.specs.Calls.{entered, tells}
+use Rattle.bounded_buffer.specs.Calls.{entered, exit_events}
 use Rattle.bounded_buffer.specs.Parts.{did}
 use Rattle.bounded_buffer.proofs.Ending.{then_adds}
 use Rattle.bounded_buffer.proofs.exit.leave.Goals as goal
 
-tells_if : (t : ℕ) (left : List ℕ) (o : CondId) (b : Bool) → tells t left (then_some b o) ≡ cond b (event t (signal_action o.0 left) ∷ []) []
-tells_if t left o true = refl
-tells_if t left o false = refl
+exit_if : (t : ℕ) (left : List ℕ) (o : CondId) (b : Bool) → exit_events t left (then_some b o) ≡ cond b (event t (signal_action o.0 left) ∷ []) []
+exit_if t left o true = refl
+exit_if t left o false = refl
 
 pub give-requires-clause-rest : goal.give-requires-clause-rest
 give-requires-clause-rest g c κs within = c.requires.visits.6.has.inn.rest
@@ -51,7 +51,7 @@ returns-clause-ended g c = λ o side s q d a v.
       ran = record {
         waited = h.waited;
         left = gave.event.0;
-        events = subst (λ l. Adds (es ++ l) (release_event a.number m) a e) (ap (tells a.number gave.event.0) c.then_some.ensures ∙ tells_if a.number gave.event.0 c.args.other c.args.signalled ∙ ap (λ b. cond b (event a.number (signal_action c.args.other.0 gave.event.0) ∷ []) []) v.signalled) (then_adds es (λ n. tells n gave.event.0 c.then_some.result) (λ n. release_event n m) a b e inn.same inn.events gave.event.1);
+        events = subst (λ l. Adds (es ++ l) (release_event a.number m) a e) (ap (exit_events a.number gave.event.0) c.then_some.ensures ∙ exit_if a.number gave.event.0 c.args.other c.args.signalled ∙ ap (λ b. cond b (event a.number (signal_action c.args.other.0 gave.event.0) ∷ []) []) v.signalled) (then_adds es (λ n. exit_events n gave.event.0 c.then_some.result) (λ n. release_event n m) a b e inn.same inn.events gave.event.1);
         share = now;
         is_share = subst (λ n. e.share ≡ Some (g.C.Change.after c.args.p.now.world m n h.value y inn.share)) inn.same.number (gave.share.2 inn.share h.value inn.is_share inn.holds);
         here = law.1.here ∙ ap (did d) inn.here;

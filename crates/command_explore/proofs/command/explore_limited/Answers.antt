@@ -3,7 +3,7 @@ use Rattle.command_endings.specs.Changes.{change_of}
 use Rattle.command_script.proofs.Decided.{read_decides, refused_decides}
 use Rattle.command_explore.specs.declared.stuck.ExploreStatus.TheVariants.{As}
 use Rattle.command_explore.specs.Explore.{Own}
-use Rattle.command_explore.proofs.Answering.{answered, is_own, refused_answers, refused_tells}
+use Rattle.command_explore.proofs.Answering.{answered, is_own, refused_answers, refused_reports}
 use Rattle.command_explore.proofs.command.explore_limited.Goals as goal
 
 pub returns-in-Ok-clause-answers : goal.returns-in-Ok-clause-answers
@@ -40,4 +40,4 @@ pub returns-in-Err-clause-reported : goal.returns-in-Err-clause-reported
 returns-in-Err-clause-reported g c =
     let input = change_of g.I.Source.left g.I.Source.faults c.args.input.now c.read_script.new.input in
     let notes = change_of g.N.Sink.held g.N.Sink.faults c.args.notes.now c.ends_unread.new.notes in
-    refused_tells input notes c.in-Err.fault c.ends_unread.result c.ends_unread.ensures c.in-Err.ensures.reported.otherwise
+    refused_reports input notes c.in-Err.fault c.ends_unread.result c.ends_unread.ensures c.in-Err.ensures.reported.otherwise

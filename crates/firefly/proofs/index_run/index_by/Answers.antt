@@ -13,7 +13,7 @@ use Rattle.firefly.specs.IndexRun.{NoIndex}
 use Rattle.firefly.specs.Looks.{look_of, looks_of}
 use Rattle.command_endings.specs.Messages.{stopped_message, unreadable_message}
 use Rattle.command_endings.specs.declared.status.Status.{Status}
-use Rattle.firefly.proofs.Places.{all_tell, first_tells, keeps, looks_many, owns, there}
+use Rattle.firefly.proofs.Places.{all_show, first_shows, keeps, looks_many, owns, there}
 use Rattle.firefly.proofs.TreeLooks.{kept_own}
 use Rattle.indexer.specs.Once.{EachOnce}
 use Rattle.firefly.proofs.IndexRuns.{all_back, all_own, all_still, asked_once, failed_at, no_rise, shows_work, still_spared}
@@ -31,9 +31,9 @@ index-requires-clause-there g c κs within = λ k low.
     let enough = c.requires.enough in
     there (look_of g.S.Tree.tree g.S.Tree.may_fail g.S.Tree.calls g.S.Tree.faults) c.requires.agree.0 c.args.trees.now c.requires.agree.1 k (omega (arith, plan.walkers.1, plan.parsers.1))
 
-pub index-requires-clause-tell : goal.index-requires-clause-tell
-index-requires-clause-tell g c κs within =
-    (c.requires.agree.0, all_tell (look_of g.S.Tree.tree g.S.Tree.may_fail g.S.Tree.calls g.S.Tree.faults) c.requires.agree.0 c.args.trees.now c.requires.agree.1)
+pub index-requires-clause-shows : goal.index-requires-clause-shows
+index-requires-clause-shows g c κs within =
+    (c.requires.agree.0, all_show (look_of g.S.Tree.tree g.S.Tree.may_fail g.S.Tree.calls g.S.Tree.faults) c.requires.agree.0 c.args.trees.now c.requires.agree.1)
 
 pub returns-in-Stopped : goal.returns-in-Stopped
 returns-in-Stopped g c =
@@ -46,9 +46,9 @@ returns-in-Stopped g c =
     let enough = c.requires.enough in
     let plan = c.plan_by-plan.ensures.plan in
     let answer = index.Stopped c.in-Stopped.found in
-    let w = subst (λ (p : Plan). says.IndexSays reported o.directory p answer) plan (c.in-Stopped.ensures.says reported (all_tell look reported old c.requires.agree.1)) in
+    let w = subst (λ (p : Plan). says.IndexSays reported o.directory p answer) plan (c.in-Stopped.ensures.says reported (all_show look reported old c.requires.agree.1)) in
     let back = subst (λ (p : Plan). says.TreesAfter S.tree S.may_fail S.faults S.calls p.walkers (p.walkers + p.parsers) old new answer) plan c.in-Stopped.ensures.trees in
-    let first = first_tells reported (looks_of look old) c.requires.agree.1 (omega (arith, looks_many look old)) in
+    let first = first_shows reported (looks_of look old) c.requires.agree.1 (omega (arith, looks_many look old)) in
     let n = w.0.0 in
     let allowed : c.unwrap_or.result ≡ n = c.unwrap_or.ensures ∙ ap (λ (x : Option ℕ). unwrap_or x 0) w.0.1 in
     let notes = change_of g.N.Sink.held g.N.Sink.faults c.args.notes.now c.ends.new.notes in
@@ -105,9 +105,9 @@ returns-in-TooMany g c =
     let enough = c.requires.enough in
     let plan = c.plan_by-plan.ensures.plan in
     let answer = index.TooMany c.in-TooMany.field-0 in
-    let w = subst (λ (p : Plan). says.IndexSays reported o.directory p answer) plan (c.in-TooMany.ensures.says reported (all_tell look reported old c.requires.agree.1)) in
+    let w = subst (λ (p : Plan). says.IndexSays reported o.directory p answer) plan (c.in-TooMany.ensures.says reported (all_show look reported old c.requires.agree.1)) in
     let back = subst (λ (p : Plan). says.TreesAfter S.tree S.may_fail S.faults S.calls p.walkers (p.walkers + p.parsers) old new answer) plan c.in-TooMany.ensures.trees in
-    let first = first_tells reported (looks_of look old) c.requires.agree.1 (omega (arith, looks_many look old)) in
+    let first = first_shows reported (looks_of look old) c.requires.agree.1 (omega (arith, looks_many look old)) in
     let notes = change_of g.N.Sink.held g.N.Sink.faults c.args.notes.now c.ends-in-TooMany.new.notes in
     let many = subst (λ (k : ℕ). IfSome reported (λ t. AreMany t o.directory Dir k)) w.0 w.1 in
     record {
@@ -157,13 +157,13 @@ returns-in-Done g c =
     let plan = c.plan_by-plan.ensures.plan in
     let lawful = c.plan_by-plan.ensures.lawful in
     let answer = index.Done c.in-Done.piece c.in-Done.closed in
-    let w = subst (λ (p : Plan). says.IndexSays reported o.directory p answer) plan (c.in-Done.ensures.says reported (all_tell look reported old c.requires.agree.1)) in
+    let w = subst (λ (p : Plan). says.IndexSays reported o.directory p answer) plan (c.in-Done.ensures.says reported (all_show look reported old c.requires.agree.1)) in
     let trees = subst (λ (p : Plan). says.TreesAfter S.tree S.may_fail S.faults S.calls p.walkers (p.walkers + p.parsers) old new answer) plan c.in-Done.ensures.trees in
-    let first = first_tells reported (looks_of look old) c.requires.agree.1 (omega (arith, looks_many look old)) in
+    let first = first_shows reported (looks_of look old) c.requires.agree.1 (omega (arith, looks_many look old)) in
     record {
       is_index = subst (λ (q : Option Contents). IfSome q (λ t. IsWhole t o.directory o.stop_after c.in-Done.piece)) (sym first) w.0;
       none_rose = no_rise S.tree S.may_fail S.faults S.calls old new (all_still S.tree S.may_fail S.faults S.calls o.walkers (o.walkers + o.parsers) c.in-Done.closed.threads old new trees.0 trees.1);
-      once = asked_once S.tree S.may_fail S.faults S.calls o reported old new first (omega (arith, looks_many look old, lawful.walkers.1, lawful.parsers.1, ap (λ (p : Plan). p.walkers + p.parsers) plan)) (still_spared S.tree S.may_fail S.faults S.calls o old new trees.0.others) (subst (λ (p : Plan). EachOnce S.calls reported o.directory (p.walkers + p.parsers) old new answer) plan (c.in-Done.ensures.once reported (all_tell look reported old c.requires.agree.1)));
+      once = asked_once S.tree S.may_fail S.faults S.calls o reported old new first (omega (arith, looks_many look old, lawful.walkers.1, lawful.parsers.1, ap (λ (p : Plan). p.walkers + p.parsers) plan)) (still_spared S.tree S.may_fail S.faults S.calls o old new trees.0.others) (subst (λ (p : Plan). EachOnce S.calls reported o.directory (p.walkers + p.parsers) old new answer) plan (c.in-Done.ensures.once reported (all_show look reported old c.requires.agree.1)));
       run = w.1;
       work = shows_work S.tree S.may_fail S.faults S.calls o c.args.traced c.in-Done.closed old new w.1 trees.1;
       quiet = refl;

@@ -90,16 +90,16 @@ pub returns-in-Ok-Rounds : goal.returns-in-Ok-Rounds
 returns-in-Ok-Rounds g c =
     record {
       usage = λ none. absurd (none _ c.in-Ok-Rounds.ensures.said);
-      answers = λ t says. let k = rw c.in-Ok-Rounds.field-0-is at c.in-Ok-Rounds.ensures in answered t _ _ _ (k.only t says) (c.write_rounds.ensures, (refl, refl), refl);
+      answers = λ t says. let k = rw c.in-Ok-Rounds.field-0-is at c.in-Ok-Rounds.ensures in answered t _ _ _ (k.only t says) (c.run_rounds.ensures, (refl, refl), refl);
       kept = λ _. kept-same _ c.requires.agree;
       own = own-same _ c.requires.agree;
     }
 
-pub write_rounds-requires-clause-threads : goal.write_rounds-requires-clause-threads
-write_rounds-requires-clause-threads g c κs within = (let k = rw c.in-Ok-Rounds.field-0-is at c.in-Ok-Rounds.ensures in (k.in_range.0, k.in_range.1))
+pub run_rounds-requires-clause-threads : goal.run_rounds-requires-clause-threads
+run_rounds-requires-clause-threads g c κs within = (let k = rw c.in-Ok-Rounds.field-0-is at c.in-Ok-Rounds.ensures in (k.in_range.0, k.in_range.1))
 
-pub write_rounds-requires-clause-rounds : goal.write_rounds-requires-clause-rounds
-write_rounds-requires-clause-rounds g c κs within = (let k = rw c.in-Ok-Rounds.field-0-is at c.in-Ok-Rounds.ensures in (k.in_range.2, k.in_range.3))
+pub run_rounds-requires-clause-rounds : goal.run_rounds-requires-clause-rounds
+run_rounds-requires-clause-rounds g c κs within = (let k = rw c.in-Ok-Rounds.field-0-is at c.in-Ok-Rounds.ensures in (k.in_range.2, k.in_range.3))
 
 pub returns-in-Err-Usage : goal.returns-in-Err-Usage
 returns-in-Err-Usage g c =

@@ -29,8 +29,8 @@ index-answer-requires-clause-there g c κs within = λ k low.
     let a = subst (AreSamples c.args.seed c.args.files) (sym c.as_mut_slice.ensures.value) c.in_ok-trees.ensures in
     tree_there a.tree c.as_mut_slice.result.now a.each k (omega (arith, low, a.many))
 
-pub index-answer-requires-clause-tell : goal.index-answer-requires-clause-tell
-index-answer-requires-clause-tell g c κs within =
+pub index-answer-requires-clause-shows : goal.index-answer-requires-clause-shows
+index-answer-requires-clause-shows g c κs within =
     let a = subst (AreSamples c.args.seed c.args.files) (sym c.as_mut_slice.ensures.value) c.in_ok-trees.ensures in
     (Some a.tree, λ k s e. ap (λ (t : Contents). Some t) (tree_at a.tree c.as_mut_slice.result.now a.each k s e))
 

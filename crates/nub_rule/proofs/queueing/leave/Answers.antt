@@ -52,7 +52,7 @@ returns-clause-there g c = let a = at_hand g (goal.at.returns-clause-there g c).
 
 pub returns-clause-out : goal.returns-clause-out
 returns-clause-out g c = let a = at_hand g (goal.at.returns-clause-out g c).After-bring in let line = c.leave_slot.ensures.out c.me.inside.seat.me.0.part.queue c.in-Some.length (same_slot c.number-o.result _ _ _ _ c.slot_mut.ensures.value a.first) c.in-Some.is in
-    λ _ f tells. requeued_seen f _ _ _ _ _ _ _ _ c.bring.new.seat.me _ _ c.me.invariant a (c.store.ensures.0 ∙ c.bring.ensures.same.0) line.1 (tells _ _ _ _ c.length_word.ensures c.store.ensures.2) _ _ _ _ c.me.view_is
+    λ _ f records. requeued_seen f _ _ _ _ _ _ _ _ c.bring.new.seat.me _ _ c.me.invariant a (c.store.ensures.0 ∙ c.bring.ensures.same.0) line.1 (records _ _ _ _ c.length_word.ensures c.store.ensures.2) _ _ _ _ c.me.view_is
 
 pub returns-in_default-clause-out : goal.returns-in_default-clause-out
 returns-in_default-clause-out g c = λ e. absurd (false_true e)

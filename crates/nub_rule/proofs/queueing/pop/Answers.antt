@@ -42,5 +42,5 @@ pub returns : goal.returns
 returns g c = let a = at_hand g (goal.at.returns g c).After-bring in let line = c.pop_slot-first.ensures c.me.inside.seat.me.0.part.queue (same_slot c.number-o.result _ _ _ _ c.slot_mut.ensures.value a.first) in (
   λ e. ap (λ k. k.queue) (sym c.me.view_is) ∙ line.2 e,
   λ x e. subst (λ (l : List ℕ). l ≡ x.0 ∷ tail_of l) (ap (λ k. k.queue) c.me.view_is) (line.3 x e),
-  λ f tells. requeued_seen f _ _ _ _ _ _ _ _ c.bring.new.seat.me _ _ c.me.invariant a (c.store.ensures.0 ∙ c.bring.ensures.same.0) line.0 (tells _ _ _ _ c.length_word.ensures c.store.ensures.2) _ _ _ _ c.me.view_is,
+  λ f records. requeued_seen f _ _ _ _ _ _ _ _ c.bring.new.seat.me _ _ c.me.invariant a (c.store.ensures.0 ∙ c.bring.ensures.same.0) line.0 (records _ _ _ _ c.length_word.ensures c.store.ensures.2) _ _ _ _ c.me.view_is,
 )

@@ -38,4 +38,4 @@ invariant_of-me g c = let a = at_hand g (goal.at.invariant_of-me g c).After-brin
 
 pub returns : goal.returns
 returns g c = let a = at_hand g (goal.at.returns g c).After-bring in let line = c.push_slot-longer.ensures c.me.inside.seat.me.0.part.queue (same_slot c.number-o.result _ _ _ _ c.slot_mut.ensures.value a.first) in
-    λ f tells. requeued_seen f _ _ _ _ _ _ _ _ c.bring.new.seat.me _ _ c.me.invariant a (c.store.ensures.0 ∙ c.bring.ensures.same.0) line.0 (tells _ _ _ _ c.length_word.ensures c.store.ensures.2) _ _ _ _ c.me.view_is
+    λ f records. requeued_seen f _ _ _ _ _ _ _ _ c.bring.new.seat.me _ _ c.me.invariant a (c.store.ensures.0 ∙ c.bring.ensures.same.0) line.0 (records _ _ _ _ c.length_word.ensures c.store.ensures.2) _ _ _ _ c.me.view_is

@@ -14,8 +14,8 @@ index-answer-requires-clause-there g c κs within = λ k low.
     let size = ap length same in
     tree_there t c.as_mut_slice.result.now all k (omega arith)
 
-pub index-answer-requires-clause-tell : goal.index-answer-requires-clause-tell
-index-answer-requires-clause-tell g c κs within =
+pub index-answer-requires-clause-shows : goal.index-answer-requires-clause-shows
+index-answer-requires-clause-shows g c κs within =
     let t = tree_of c.args.tree.now in
     let all = subst (All (HoldsTree t)) (sym c.as_mut_slice.ensures.value) c.in_ok-trees.ensures.trees in
     (Some t, λ k s e. tree_reported t c.as_mut_slice.result.now all k s e)

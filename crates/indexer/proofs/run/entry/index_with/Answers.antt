@@ -20,31 +20,31 @@ use Rattle.indexer.proofs.run.entry.index_with.Goals as goal
 pub decided_at-answer-requires-clause-lawful : goal.decided_at-answer-requires-clause-lawful
 decided_at-answer-requires-clause-lawful g c κs within =
     let S = g.S.Tree in
-    let o = c.requires.tell.0 in
+    let o = c.requires.shows.0 in
     let n = c.args.plan.now.walkers + c.args.plan.now.parsers in
     let visits = c.in-Ok-gather.found.visits.items in
     visits_lawful o visits (subst (All (IsVisit o)) (sym c.in-Ok-gather.ensures.visits)
-    (all_visits S.tree S.may_fail S.faults S.calls c.args.root.now c.args.plan.now.walkers n c.in-Ok.closed.threads c.args.trees.now c.worked_run.new.trees c.in-Ok.findings.items o c.requires.tell.1 c.in-Ok.ensures.run.found))
+    (all_visits S.tree S.may_fail S.faults S.calls c.args.root.now c.args.plan.now.walkers n c.in-Ok.closed.threads c.args.trees.now c.worked_run.new.trees c.in-Ok.findings.items o c.requires.shows.1 c.in-Ok.ensures.run.found))
 
 pub decided_at-answer-requires-clause-reported : goal.decided_at-answer-requires-clause-reported
 decided_at-answer-requires-clause-reported g c κs within = λ s e.
     let S = g.S.Tree in
-    let o = c.requires.tell.0 in
+    let o = c.requires.shows.0 in
     let visits = c.in-Ok-gather.found.visits.items in
     let n = c.args.plan.now.walkers + c.args.plan.now.parsers in
     let all = subst (All (IsVisit o)) (sym c.in-Ok-gather.ensures.visits)
-    (all_visits S.tree S.may_fail S.faults S.calls c.args.root.now c.args.plan.now.walkers n c.in-Ok.closed.threads c.args.trees.now c.worked_run.new.trees c.in-Ok.findings.items o c.requires.tell.1 c.in-Ok.ensures.run.found) in
-    let same = c.requires.tell.1 n s (sym (c.in-Ok.ensures.run.others n None (omega arith)) ∙ e) in
+    (all_visits S.tree S.may_fail S.faults S.calls c.args.root.now c.args.plan.now.walkers n c.in-Ok.closed.threads c.args.trees.now c.worked_run.new.trees c.in-Ok.findings.items o c.requires.shows.1 c.in-Ok.ensures.run.found) in
+    let same = c.requires.shows.1 n s (sym (c.in-Ok.ensures.run.others n None (omega arith)) ∙ e) in
     subst (λ (q : Option Contents). IfSome q (λ t. All (λ (v : Visit). IsReportedBy t v.dir v.listing) visits)) (sym same) (visits_reported o visits all)
 
 pub decided_at-answer-requires-clause-pieces : goal.decided_at-answer-requires-clause-pieces
 decided_at-answer-requires-clause-pieces g c κs within = λ s e.
-    let o = c.requires.tell.0 in
+    let o = c.requires.shows.0 in
     let pieces = c.in-Ok-gather.found.pieces.items in
     let n = c.args.plan.now.walkers + c.args.plan.now.parsers in
-    let same = c.requires.tell.1 n s (sym (c.in-Ok.ensures.run.others n None (omega arith)) ∙ e) in
+    let same = c.requires.shows.1 n s (sym (c.in-Ok.ensures.run.others n None (omega arith)) ∙ e) in
     subst (λ (q : Option Contents). All (IsFilesPiece q c.args.root.now) pieces) (sym same)
-    (subst (All (IsFilesPiece o c.args.root.now)) (sym c.in-Ok-gather.ensures.pieces) (c.in-Ok.ensures.run.pieces o c.requires.tell.1))
+    (subst (All (IsFilesPiece o c.args.root.now)) (sym c.in-Ok-gather.ensures.pieces) (c.in-Ok.ensures.run.pieces o c.requires.shows.1))
 
 pub decided_at-answer-requires-clause-once : goal.decided_at-answer-requires-clause-once
 decided_at-answer-requires-clause-once g c κs within = λ kept. subst (AreVisits c.args.root.now) (sym c.in-Ok-gather.ensures.visits) c.in-Ok.ensures.run.visits
@@ -88,14 +88,14 @@ returns g c =
     let others = c.decided_at-answer.ensures.others in
     let is = sym c.answer_of.ensures in
     record {
-      once = λ o tell. subst (EachOnce S.calls o root n old new) is
-          (each_once S.tree S.calls root n closed findings old mid new o own.0 own.1 tell run.once c.in-Ok-gather.found.visits.items c.in-Ok-gather.found.pieces.items c.in-Ok-gather.found.lost c.in-Ok-gather.ensures.visits c.in-Ok-gather.ensures.pieces c.in-Ok-gather.ensures.lost
+      once = λ o shows. subst (EachOnce S.calls o root n old new) is
+          (each_once S.tree S.calls root n closed findings old mid new o own.0 own.1 shows run.once c.in-Ok-gather.found.visits.items c.in-Ok-gather.found.pieces.items c.in-Ok-gather.found.lost c.in-Ok-gather.ensures.visits c.in-Ok-gather.ensures.pieces c.in-Ok-gather.ensures.lost
           run.others others answer c.decided_at-answer.ensures.lost c.decided_at-answer.ensures.rest (ends own.0 (run.others n None (omega arith) ∙ own.1)).0 (ends own.0 (run.others n None (omega arith) ∙ own.1)).1);
-      says = λ o tell. subst (IndexSays o root plan) is (index_says o root plan closed answer
-          (end_says S.tree S.may_fail S.faults S.calls o root plan.stop_after fault own.0 (slice_index_or new n None) answer (tell n own.0 own.1) (ends own.0 (run.others n None (omega arith) ∙ own.1)))
+      says = λ o shows. subst (IndexSays o root plan) is (index_says o root plan closed answer
+          (end_says S.tree S.may_fail S.faults S.calls o root plan.stop_after fault own.0 (slice_index_or new n None) answer (shows n own.0 own.1) (ends own.0 (run.others n None (omega arith) ∙ own.1)))
           (record { layout = run.layout; untraced = run.untraced; traced = run.traced }));
       cause = subst (HasCause S.tree S.may_fail S.faults S.calls root old new) is
-          (has_cause S.tree S.may_fail S.faults S.calls root plan.walkers n closed findings old mid new plan.stop_after fault c.in-Ok-gather.ensures.fault run.found own.0 own.1 run.others others c.requires.tell.0 c.requires.tell.1 answer ends);
+          (has_cause S.tree S.may_fail S.faults S.calls root plan.walkers n closed findings old mid new plan.stop_after fault c.in-Ok-gather.ensures.fault run.found own.0 own.1 run.others others c.requires.shows.0 c.requires.shows.1 answer ends);
       trees = subst (TreesAfter S.tree S.may_fail S.faults S.calls plan.walkers n old new) is
           (trees_after S.tree S.may_fail S.faults S.calls root plan.walkers n closed findings old mid new plan.stop_after fault c.in-Ok-gather.ensures.fault run.found own.0 own.1 run.others others many answer ends);
     }

@@ -67,13 +67,13 @@ returns-clause-run g c =
           (whole.0, whole.1, subst (λ (l : Layout). IsWhole l closed.threads whole.0) opened.0 (subst (λ (l : List Worker). IsWhole p.layout l whole.0) (sym ended.threads) whole.2));
       count = one_fewer threads findings (layout_of plan).threads (crew.found ∙ crew.many) c.in_ok-p.ensures.count (omega arith);
       found = all_found_by S.tree S.may_fail S.faults S.calls root p plan.walkers (plan.walkers + plan.parsers) threads crew.last crew.back closed.threads findings old new firsts crew.found (ended.threads ∙ crew.is_all) crew.worked;
-      pieces = λ o tell. all_pieces S.tree S.may_fail S.faults S.calls root p o plan.walkers (plan.walkers + plan.parsers) threads crew.caller crew.last crew.back findings old new tell firsts crew.is_caller (crew.called.called o root 0) crew.worked
+      pieces = λ o shows. all_pieces S.tree S.may_fail S.faults S.calls root p o plan.walkers (plan.walkers + plan.parsers) threads crew.caller crew.last crew.back findings old new shows firsts crew.is_caller (crew.called.called o root 0) crew.worked
           closed.values (ended.values.0 ∙ ap (λ (l : Layout). l.mutexes) opened.0) (subst (λ (l : List Worker). KeepsLocks (KeepsWork p.world) l closed.values) crew.is_all ended.values.1) crew.found;
       visits = subst (λ (r : Path). AreVisits r (visits_of findings)) opened.2 (all_visits_once S.tree S.may_fail S.faults S.calls root p plan.walkers n threads crew.caller crew.last crew.back findings old new firsts crew.is_caller crew.called crew.worked closed.values three locks crew.found);
       apart = all_apart S.tree S.may_fail S.faults S.calls root p plan.walkers n threads crew.caller crew.last crew.back findings old new firsts crew.is_caller crew.called crew.worked closed.values three locks crew.found;
       covered = subst (λ (r : Path). AreFound r (visits_of findings) (pieces_of findings)) opened.2 (all_found S.tree S.may_fail S.faults S.calls root p plan.walkers n threads crew.caller crew.last crew.back findings old new firsts crew.is_caller crew.called crew.worked closed.values three locks crew.found);
-      once = λ t tell kept. subst (λ (r : Path). IsWorkedOnce S.calls r n old new (visits_of findings) (pieces_of findings)) opened.2
-          (worked_once S.tree S.may_fail S.faults S.calls root p plan.walkers n threads crew.caller crew.last crew.back findings old new firsts crew.is_caller crew.called crew.worked closed.values three locks crew.found t tell kept
+      once = λ t shows kept. subst (λ (r : Path). IsWorkedOnce S.calls r n old new (visits_of findings) (pieces_of findings)) opened.2
+          (worked_once S.tree S.may_fail S.faults S.calls root p plan.walkers n threads crew.caller crew.last crew.back findings old new firsts crew.is_caller crew.called crew.worked closed.values three locks crew.found t shows kept
           (let count = one_fewer threads findings (layout_of plan).threads (crew.found ∙ crew.many) c.in_ok-p.ensures.count (omega arith) in let some = c.requires.plan.mergers in omega arith));
       others = crew.others;
     }

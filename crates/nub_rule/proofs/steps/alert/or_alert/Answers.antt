@@ -2,7 +2,7 @@ use Rattle.std.proofs.Common.{Bool, rules, arith, ◌≡◌, ◌∙◌, ◌∷�
 use Rattle.larch_actions.specs.declared.event.Life.{Life}
 use Rattle.nub_rule.specs.declared.view.Pen.{Pen}
 use Rattle.nub_rule.specs.Known.{known_as, Makes}
-use Rattle.nub_rule.specs.Parts.{made, MayTell}
+use Rattle.nub_rule.specs.Parts.{made, MayRecord}
 use Rattle.nub_rule.specs.Plays.{Grows, alert_event}
 use Rattle.nub_rule.proofs.Naming.{thread_low}
 use Rattle.nub_rule.proofs.Seen.{as_known}
@@ -15,7 +15,7 @@ fetch_or-found-requires-clause-inside g c κs within = let near = thread_low _ _
 
 pub fetch_or-found-requires-clause-allowed : goal.fetch_or-found-requires-clause-allowed
 fetch_or-found-requires-clause-allowed g c κs within = let near = thread_low _ _ _ _ c.p.view_is c.p.invariant.laid_out c.p.invariant.lawful c.args.t.0 c.requires.named in let t : ℕ = c.args.t.0 in let traces : c.p.inside.table.shared.key.traced ≡ c.args.p.now.traced = ap (λ s. s.traced) c.p.view_is in
-    let word = c.alert_word.ensures in or_alert_keeps _ _ _ _ _ _ _ t c.me.inside.seat.me _ word near (search rules) c.me.invariant.member (ap (λ k. k.wait) c.me.view_is ∙ c.requires.outside) (subst (λ (z : Bool × Life × Pen). MayTell z.0 z.1 z.2) (λ j. (sym traces j, ap (λ k. k.life) (sym c.me.view_is) j, ap (λ k. k.pen) (sym c.me.view_is) j)) c.requires.pen)
+    let word = c.alert_word.ensures in or_alert_keeps _ _ _ _ _ _ _ t c.me.inside.seat.me _ word near (search rules) c.me.invariant.member (ap (λ k. k.wait) c.me.view_is ∙ c.requires.outside) (subst (λ (z : Bool × Life × Pen). MayRecord z.0 z.1 z.2) (λ j. (sym traces j, ap (λ k. k.life) (sym c.me.view_is) j, ap (λ k. k.pen) (sym c.me.view_is) j)) c.requires.pen)
 
 pub invariant_of-me : goal.invariant_of-me
 invariant_of-me g c = let t : ℕ = c.args.t.0 in let i = c.me.invariant in fit_noted _ _ c.me.inside.number c.me.inside.hand c.me.inside.seat.me _ _ c.fetch_or-found.ensures.0 ((c.fetch_or-found.ensures.2 t (thread_low _ _ _ _ c.p.view_is c.p.invariant.laid_out c.p.invariant.lawful t c.requires.named) c.alert_word.ensures).2) i refl refl refl refl refl

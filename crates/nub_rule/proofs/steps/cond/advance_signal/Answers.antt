@@ -3,7 +3,7 @@ use Rattle.larch_actions.specs.declared.event.Life.{Life}
 use Rattle.nub_rule.specs.declared.rule.Slot.TheVariants.{Queue}
 use Rattle.nub_rule.specs.declared.view.Pen.{Pen}
 use Rattle.nub_rule.specs.Items.{Distinct, Small, queue_of}
-use Rattle.nub_rule.specs.Parts.{made, MayTell}
+use Rattle.nub_rule.specs.Parts.{made, MayRecord}
 use Rattle.nub_rule.specs.Places.{most_threads, cond_object}
 use Rattle.nub_rule.specs.Plays.{recorded, tail_of, event, signal_action}
 use Rattle.nub_rule.proofs.Naming.{cond_low}
@@ -36,7 +36,7 @@ fetch_add-count-requires-clause-allowed g c κs within = let near = cond_low _ _
     let same = c.bring.ensures.same.2 in let e = ap (λ v. v.part) same in advance_signal_keeps _ _ _ _ _ _ _ c.args.c.0 (c.bring.new.seat.me.0, _) _ word near (search rules) (ap (λ v. v.kind) same ∙ c.me.invariant.member) (ap (λ p. p.spin) e ∙ (ap (λ k. k.spin) c.me.view_is ∙ c.requires.inside)) (ap (λ p. p.wait) e ∙ (ap (λ k. k.wait) c.me.view_is ∙ c.requires.outside))
     (ap (λ p. p.left) e ∙ (ap (λ k. k.left) c.me.view_is ∙ (c.requires.even ∙ (ap (λ k. k.queue) (sym c.me.view_is) ∙ ap (λ p. p.queue) (sym e)))))
     (subst (λ (z : ℕ). z < 18446744073709551615) (ap (λ k. k.count) (sym c.me.view_is) ∙ ap (λ p. p.count) (sym e)) c.requires.room)
-    (subst (λ (z : Bool × Life × Pen). MayTell z.0 z.1 z.2) (λ j. (sym traces j, (ap (λ k. k.life) (sym c.me.view_is) ∙ ap (λ p. p.life) (sym e)) j, (ap (λ k. k.pen) (sym c.me.view_is) ∙ ap (λ p. p.pen) (sym e)) j)) c.requires.pen)
+    (subst (λ (z : Bool × Life × Pen). MayRecord z.0 z.1 z.2) (λ j. (sym traces j, (ap (λ k. k.life) (sym c.me.view_is) ∙ ap (λ p. p.life) (sym e)) j, (ap (λ k. k.pen) (sym c.me.view_is) ∙ ap (λ p. p.pen) (sym e)) j)) c.requires.pen)
 
 signalled : (g : Over) (c : After-fetch_add-count g) → QueueAtHand c.me.inside.seat.me c.bring.new.seat.me c.bring.new.hand (cond_object c.args.c.0)
     → After (λ n p. record (recorded p (p.seen ++ (c.fetch_add-count.ensures.2 c.args.c.0 c.count_word.ensures).2) (event n (signal_action c.args.c.0 (tail_of p.queue)))) { left = tail_of p.queue; count = p.count + 1; calling = None }) (λ vs. vs) c.me.inside.seat.table_id c.fetch_add-count.new.seat.table_id c.me.inside.number c.bring.new.hand c.me.inside.seat.me c.fetch_add-count.new.seat.me c.me.inside.room.items (vec_capacity c.me.inside.room)

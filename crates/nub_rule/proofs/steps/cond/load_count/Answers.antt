@@ -3,7 +3,7 @@ use lib.ListN.{get_elem?}
 use Rattle.larch_actions.specs.declared.event.Life.{Life}
 use Rattle.nub_rule.specs.declared.rule.Slot.TheVariants.{Value}
 use Rattle.nub_rule.specs.declared.view.Pen.{Pen}
-use Rattle.nub_rule.specs.Parts.{MayTell}
+use Rattle.nub_rule.specs.Parts.{MayRecord}
 use Rattle.nub_rule.proofs.Naming.{cond_low}
 use Rattle.nub_rule.proofs.Entering.{Entered, entered}
 use Rattle.nub_rule.proofs.CondSteps.{load_count_keeps}
@@ -24,7 +24,7 @@ load-requires-clause-allowed g c κs within = let near = cond_low _ _ _ _ c.p.vi
     let word = c.count_word.ensures in load_count_keeps _ _ _ _ _ false _ _ m c.args.c.0 (Value t.0) c.bring.new.seat.me c.requires.has.0 _ word near (search rules) (ap (λ v. v.kind) same ∙ c.me.invariant.member) (b.first (Value t.0) t.1) (ap (λ p. get_elem? p.held m) e ∙ (ap (λ k. get_elem? k.held m) c.me.view_is ∙ c.requires.has.1))
     (ap (λ p. p.wait) e ∙ (ap (λ k. k.wait) c.me.view_is ∙ c.requires.outside)) (ap (λ p. p.left) e ∙ (ap (λ k. k.left) c.me.view_is ∙ (c.requires.even ∙ (ap (λ k. k.queue) (sym c.me.view_is) ∙ ap (λ p. p.queue) (sym e)))))
     (ap (λ p. p.raised) e ∙ (ap (λ k. k.raised) c.me.view_is ∙ c.requires.raised))
-    (subst (λ (z : Bool × Life × Pen). MayTell z.0 z.1 z.2) (λ j. (sym traces j, (ap (λ k. k.life) (sym c.me.view_is) ∙ ap (λ p. p.life) (sym e)) j, (ap (λ k. k.pen) (sym c.me.view_is) ∙ ap (λ p. p.pen) (sym e)) j)) c.requires.pen)
+    (subst (λ (z : Bool × Life × Pen). MayRecord z.0 z.1 z.2) (λ j. (sym traces j, (ap (λ k. k.life) (sym c.me.view_is) ∙ ap (λ p. p.life) (sym e)) j, (ap (λ k. k.pen) (sym c.me.view_is) ∙ ap (λ p. p.pen) (sym e)) j)) c.requires.pen)
 
 begun : (g : Over) (c : After-load g) → Entered false c.args.m.0 c.args.c.0 c.load.result c.me.inside.seat.table_id c.load.new.seat.table_id c.me.inside.number c.bring.new.hand c.me.inside.seat.me c.load.new.seat.me c.me.inside.room.items (vec_capacity c.me.inside.room)
 begun g c = let m : ℕ = c.args.m.0 in let o : ℕ = c.args.c.0 in let b = c.bring.ensures in

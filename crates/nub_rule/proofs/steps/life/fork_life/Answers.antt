@@ -3,7 +3,7 @@ use Rattle.larch_actions.specs.declared.event.Life.{Life}
 use Rattle.nub_rule.specs.declared.view.Child.TheVariants.{Forked}
 use Rattle.nub_rule.specs.declared.view.Pen.{Pen}
 use Rattle.nub_rule.specs.Known.{known_as, Makes}
-use Rattle.nub_rule.specs.Parts.{made, MayTell}
+use Rattle.nub_rule.specs.Parts.{made, MayRecord}
 use Rattle.nub_rule.specs.Plays.{Grows, recorded, fork_event}
 use Rattle.nub_rule.proofs.Seen.{as_known}
 use Rattle.nub_rule.proofs.AtHand.{fit_noted}
@@ -16,7 +16,7 @@ store-requires-clause-inside g c κs within = let low = c.requires.few in let e 
 pub store-requires-clause-allowed : goal.store-requires-clause-allowed
 store-requires-clause-allowed g c κs within = let traces : c.p.inside.table.shared.key.traced ≡ c.args.p.now.traced = ap (λ s. s.traced) c.p.view_is in
     fork_life_keeps _ _ _ _ _ _ _ c.args.who.0 c.me.inside.seat.me _ c.life_word.ensures c.me.invariant.member (ap (λ k. k.child) c.me.view_is ∙ c.requires.child) (ap (λ k. k.wait) c.me.view_is ∙ c.requires.outside)
-    (subst (λ (z : Bool × Life × Pen). MayTell z.0 z.1 z.2) (λ j. (sym traces j, ap (λ k. k.life) (sym c.me.view_is) j, ap (λ k. k.pen) (sym c.me.view_is) j)) c.requires.pen)
+    (subst (λ (z : Bool × Life × Pen). MayRecord z.0 z.1 z.2) (λ j. (sym traces j, ap (λ k. k.life) (sym c.me.view_is) j, ap (λ k. k.pen) (sym c.me.view_is) j)) c.requires.pen)
 
 pub invariant_of-me : goal.invariant_of-me
 invariant_of-me g c = let u = c.store.ensures.2 c.args.who.0 c.requires.few c.life_word.ensures in let v = c.me.inside.seat.me.0 in

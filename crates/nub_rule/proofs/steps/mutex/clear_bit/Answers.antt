@@ -10,7 +10,7 @@ use Rattle.nub_rule.proofs.Handling.{values-set, value-found, gone}
 use Rattle.nub_rule.proofs.Seen.{as_known}
 use Rattle.std.proofs.Common.{Bool}
 use Rattle.nub_rule.specs.declared.view.Pen.{Pen}
-use Rattle.nub_rule.specs.Parts.{MayTell}
+use Rattle.nub_rule.specs.Parts.{MayRecord}
 use Rattle.nub_rule.specs.Plays.{recorded}
 use Rattle.atomic_table.specs.Table.{rest}
 use Rattle.nub_rule.specs.Known.{value_in, MayGive}
@@ -28,7 +28,7 @@ swap-requires-clause-inside g c κs within = let near = mutex_low _ _ _ _ c.p.vi
 
 pub swap-requires-clause-allowed : goal.swap-requires-clause-allowed
 swap-requires-clause-allowed g c κs within = let word = c.mutex_bit.ensures in let near = mutex_low _ _ _ _ c.p.view_is c.p.invariant.laid_out c.p.invariant.lawful c.args.m.0 c.requires.named in let m : ℕ = c.args.m.0 in let traces : c.p.inside.table.shared.key.traced ≡ c.args.p.now.traced = ap (λ s. s.traced) c.p.view_is in let i = c.me.invariant in let h = i.hands in let b = c.bring.ensures in let same = b.same.2 in let e = ap (λ v. v.part) same in clear_bit_keeps _ _ _ _ _ g.U.Uses.allows (g.U.Uses.holds_after _) g.C.Change.after _ _ m c.bring.new.seat.me _ word (search rules) (ap (λ v. v.kind) same ∙ i.member) (ap (λ p. p.wait) e ∙ (ap (λ k. k.wait) c.me.view_is ∙ c.requires.outside.0)) (ap (λ p. p.stand) e ∙ (ap (λ k. k.stand) c.me.view_is ∙ c.requires.outside.1))
-    (subst (λ (z : Bool × Life × Pen). MayTell z.0 z.1 z.2) (λ j. (sym traces j, (ap (λ k. k.life) (sym c.me.view_is) ∙ ap (λ p. p.life) (sym e)) j, (ap (λ k. k.pen) (sym c.me.view_is) ∙ ap (λ p. p.pen) (sym e)) j)) c.requires.pen)
+    (subst (λ (z : Bool × Life × Pen). MayRecord z.0 z.1 z.2) (λ j. (sym traces j, (ap (λ k. k.life) (sym c.me.view_is) ∙ ap (λ p. p.life) (sym e)) j, (ap (λ k. k.pen) (sym c.me.view_is) ∙ ap (λ p. p.pen) (sym e)) j)) c.requires.pen)
     (may_free g.U.Uses.allows g.C.Change.after m _ c.me.inside.number _ _ c.me.inside.seat.me c.args.me.now c.bring.new.seat.me.0 c.bring.new.seat.me.1 c.me.view_is i.numbered same b.first c.requires.may)
 
 pub invariant_of-me : goal.invariant_of-me

@@ -17,7 +17,7 @@ use lib.ListN.{get_elem?}
 use Rattle.larch_actions.specs.declared.event.Event.{Event}
 use Rattle.nub_rule.specs.declared.view.Wait.{Wait}
 use Rattle.nub_rule.specs.declared.view.Pen.{Pen}
-use Rattle.nub_rule.specs.Parts.{MayTell}
+use Rattle.nub_rule.specs.Parts.{MayRecord}
 use Rattle.nub_rule.specs.Plays.{MayTake, event, taken_action}
 use Rattle.nub_rule.proofs.Room.{room_for}
 use Rattle.nub_rule.proofs.Turns.{find-else}
@@ -33,7 +33,7 @@ compare_exchange-found-requires-clause-inside g c κs within = let near = mutex_
 
 pub compare_exchange-found-requires-clause-allowed : goal.compare_exchange-found-requires-clause-allowed
 compare_exchange-found-requires-clause-allowed g c κs within = let near = mutex_low _ _ _ _ c.p.view_is c.p.invariant.laid_out c.p.invariant.lawful c.args.m.0 c.requires.named in let m : ℕ = c.args.m.0 in let apart : c.me.inside.seat.me.0.part.stand ≡ None = ap (λ k. k.stand) c.me.view_is ∙ c.requires.outside.1 in let traces : c.p.inside.table.shared.key.traced ≡ c.args.p.now.traced = ap (λ s. s.traced) c.p.view_is in
-    let word = c.mutex_bit.ensures in try_bit_keeps _ _ _ _ _ g.U.Uses.fits (g.U.Uses.holds_fits _) _ _ m c.args.e c.me.inside.seat.me _ word (search rules) c.me.invariant.member apart (subst (λ (z : ℕ × Opt Wait). MayTake z.0 m z.1 c.args.e) (λ j. ((sym (c.me.invariant.numbered ∙ ap (λ k. k.number) c.me.view_is)) j, ap (λ k. k.wait) (sym c.me.view_is) j)) c.requires.may) (subst (λ (z : Bool × Life × Pen). MayTell z.0 z.1 z.2) (λ j. (sym traces j, ap (λ k. k.life) (sym c.me.view_is) j, ap (λ k. k.pen) (sym c.me.view_is) j)) c.requires.pen)
+    let word = c.mutex_bit.ensures in try_bit_keeps _ _ _ _ _ g.U.Uses.fits (g.U.Uses.holds_fits _) _ _ m c.args.e c.me.inside.seat.me _ word (search rules) c.me.invariant.member apart (subst (λ (z : ℕ × Opt Wait). MayTake z.0 m z.1 c.args.e) (λ j. ((sym (c.me.invariant.numbered ∙ ap (λ k. k.number) c.me.view_is)) j, ap (λ k. k.wait) (sym c.me.view_is) j)) c.requires.may) (subst (λ (z : Bool × Life × Pen). MayRecord z.0 z.1 z.2) (λ j. (sym traces j, ap (λ k. k.life) (sym c.me.view_is) j, ap (λ k. k.pen) (sym c.me.view_is) j)) c.requires.pen)
 
 pub take-requires : goal.take-requires
 take-requires g c = let near = mutex_low _ _ _ _ c.p.view_is c.p.invariant.laid_out c.p.invariant.lawful c.args.m.0 c.requires.named in let m : ℕ = c.args.m.0 in let i = c.me.invariant in let u = (c.compare_exchange-found.ensures.2 m c.mutex_bit.ensures).0 c.if-found-eq0.true in

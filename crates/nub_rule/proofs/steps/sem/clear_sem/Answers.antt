@@ -7,7 +7,7 @@ use Rattle.nub_rule.proofs.Naming.{sem_low}
 use Rattle.nub_rule.proofs.Seen.{as_known}
 use Rattle.std.proofs.Common.{Bool}
 use Rattle.nub_rule.specs.declared.view.Pen.{Pen}
-use Rattle.nub_rule.specs.Parts.{MayTell}
+use Rattle.nub_rule.specs.Parts.{MayRecord}
 use Rattle.nub_rule.specs.Plays.{v_event}
 use Rattle.nub_rule.proofs.AtHand.{fit_noted, recorded_event}
 use Rattle.nub_rule.proofs.SemSteps.{clear_sem_keeps}
@@ -18,7 +18,7 @@ swap-requires-clause-inside g c κs within = let near = sem_low _ _ _ _ c.p.view
 
 pub swap-requires-clause-allowed : goal.swap-requires-clause-allowed
 swap-requires-clause-allowed g c κs within = let near = sem_low _ _ _ _ c.p.view_is c.p.invariant.laid_out c.p.invariant.lawful c.args.s.0 c.requires.named in let s : ℕ = c.args.s.0 in let traces : c.p.inside.table.shared.key.traced ≡ c.args.p.now.traced = ap (λ s. s.traced) c.p.view_is in
-    let word = c.semaphore_bit.ensures in clear_sem_keeps _ _ _ _ _ _ _ s c.me.inside.seat.me _ word near (search rules) c.me.invariant.member (ap (λ k. k.wait) c.me.view_is ∙ c.requires.outside.0) (ap (λ k. k.stand) c.me.view_is ∙ c.requires.outside.1) (subst (λ (z : Bool × Life × Pen). MayTell z.0 z.1 z.2) (λ j. (sym traces j, ap (λ k. k.life) (sym c.me.view_is) j, ap (λ k. k.pen) (sym c.me.view_is) j)) c.requires.pen)
+    let word = c.semaphore_bit.ensures in clear_sem_keeps _ _ _ _ _ _ _ s c.me.inside.seat.me _ word near (search rules) c.me.invariant.member (ap (λ k. k.wait) c.me.view_is ∙ c.requires.outside.0) (ap (λ k. k.stand) c.me.view_is ∙ c.requires.outside.1) (subst (λ (z : Bool × Life × Pen). MayRecord z.0 z.1 z.2) (λ j. (sym traces j, ap (λ k. k.life) (sym c.me.view_is) j, ap (λ k. k.pen) (sym c.me.view_is) j)) c.requires.pen)
 
 pub invariant_of-me : goal.invariant_of-me
 invariant_of-me g c = let s : ℕ = c.args.s.0 in let i = c.me.invariant in fit_noted _ _ c.me.inside.number c.me.inside.hand c.me.inside.seat.me _ _ c.swap.ensures.0 ((c.swap.ensures.2 s c.semaphore_bit.ensures).3) i refl refl refl refl refl

@@ -6,7 +6,7 @@ use Rattle.larch_actions.specs.Sets.{without}
 use Rattle.larch_actions.specs.declared.event.Life.{Life}
 use Rattle.nub_rule.specs.declared.view.Pen.{Pen}
 use Rattle.nub_rule.specs.Known.{known_as, Makes}
-use Rattle.nub_rule.specs.Parts.{made, MayTell}
+use Rattle.nub_rule.specs.Parts.{made, MayRecord}
 use Rattle.nub_rule.specs.Places.{sem_object}
 use Rattle.nub_rule.specs.Plays.{Grows, event, p_action}
 use Rattle.nub_rule.proofs.Naming.{sem_low}
@@ -20,7 +20,7 @@ compare_exchange-requires-clause-inside g c κs within = let near = sem_low _ _ 
 
 pub compare_exchange-requires-clause-allowed : goal.compare_exchange-requires-clause-allowed
 compare_exchange-requires-clause-allowed g c κs within = let near = sem_low _ _ _ _ c.p.view_is c.p.invariant.laid_out c.p.invariant.lawful c.args.s.0 c.requires.named in let s : ℕ = c.args.s.0 in let traces : c.p.inside.table.shared.key.traced ≡ c.args.p.now.traced = ap (λ s. s.traced) c.p.view_is in
-    let word = c.semaphore_bit-bit.ensures in try_p_keeps _ _ _ _ _ true _ _ s c.me.inside.seat.me _ word near (search rules) c.me.invariant.member (ap (λ k. k.wait) c.me.view_is ∙ c.requires.may.0) (subst (λ (z : Bool × Life × Pen). MayTell z.0 z.1 z.2) (λ j. (sym traces j, ap (λ k. k.life) (sym c.me.view_is) j, ap (λ k. k.pen) (sym c.me.view_is) j)) c.requires.pen)
+    let word = c.semaphore_bit-bit.ensures in try_p_keeps _ _ _ _ _ true _ _ s c.me.inside.seat.me _ word near (search rules) c.me.invariant.member (ap (λ k. k.wait) c.me.view_is ∙ c.requires.may.0) (subst (λ (z : Bool × Life × Pen). MayRecord z.0 z.1 z.2) (λ j. (sym traces j, ap (λ k. k.life) (sym c.me.view_is) j, ap (λ k. k.pen) (sym c.me.view_is) j)) c.requires.pen)
 
 pub invariant_of-me : goal.invariant_of-me
 invariant_of-me g c = let s : ℕ = c.args.s.0 in let i = c.me.invariant in let u = (c.compare_exchange.ensures.2 s c.semaphore_bit-bit.ensures) in dite (ℕ_discrete c.compare_exchange.result 0)
@@ -43,7 +43,7 @@ compare_exchange-requires-in_default-clause-inside g c κs within = let near = s
 
 pub compare_exchange-requires-in_default-clause-allowed : goal.compare_exchange-requires-in_default-clause-allowed
 compare_exchange-requires-in_default-clause-allowed g c κs within = let near = sem_low _ _ _ _ c.p.view_is c.p.invariant.laid_out c.p.invariant.lawful c.args.s.0 c.requires.named in let s : ℕ = c.args.s.0 in let traces : c.p.inside.table.shared.key.traced ≡ c.args.p.now.traced = ap (λ s. s.traced) c.p.view_is in
-    let word = c.semaphore_bit-bit.ensures in try_p_keeps _ _ _ _ _ false _ _ s c.me.inside.seat.me _ word near (search rules) c.me.invariant.member (ap (λ k. k.wait) c.me.view_is ∙ c.requires.may.0) (subst (λ (z : Bool × Life × Pen). MayTell z.0 z.1 z.2) (λ j. (sym traces j, ap (λ k. k.life) (sym c.me.view_is) j, ap (λ k. k.pen) (sym c.me.view_is) j)) c.requires.pen)
+    let word = c.semaphore_bit-bit.ensures in try_p_keeps _ _ _ _ _ false _ _ s c.me.inside.seat.me _ word near (search rules) c.me.invariant.member (ap (λ k. k.wait) c.me.view_is ∙ c.requires.may.0) (subst (λ (z : Bool × Life × Pen). MayRecord z.0 z.1 z.2) (λ j. (sym traces j, ap (λ k. k.life) (sym c.me.view_is) j, ap (λ k. k.pen) (sym c.me.view_is) j)) c.requires.pen)
 
 pub invariant_of-me-in_default : goal.invariant_of-me-in_default
 invariant_of-me-in_default g c = let s : ℕ = c.args.s.0 in let i = c.me.invariant in let u = (c.compare_exchange-in_default.ensures.2 s c.semaphore_bit-bit.ensures) in dite (ℕ_discrete c.compare_exchange-in_default.result 0)

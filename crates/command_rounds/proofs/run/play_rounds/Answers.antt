@@ -9,7 +9,7 @@ use Rattle.nub.proofs.Users.{idle_done}
 use Rattle.barrier_once.specs.Rounds.{AreRounds}
 use Rattle.command_rounds.specs.Playing.{AreTotals}
 use Rattle.command_rounds.proofs.Closing.{begins, closed_values, parts_of}
-use Rattle.command_rounds.proofs.run.run_rounds.Goals as goal
+use Rattle.command_rounds.proofs.run.play_rounds.Goals as goal
 
 pub open_package-requires-clause-holds : goal.open_package-requires-clause-holds
 open_package-requires-clause-holds g c κs =

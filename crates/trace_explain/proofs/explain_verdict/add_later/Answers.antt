@@ -1,6 +1,6 @@
 use Rattle.trace_shapes.proofs.Added.{added_two}
 use Rattle.trace_explain.specs.Words.{later_text}
-use Rattle.trace_explain.proofs.tell.add_later.Goals as goal
+use Rattle.trace_explain.proofs.explain_verdict.add_later.Goals as goal
 
 pub returns-clause-text : goal.returns-clause-text
 unfolding later_text

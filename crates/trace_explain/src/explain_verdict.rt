@@ -4,7 +4,7 @@ ghost use Rattle.std.specs.Io.KnownBytes.{Appends};
 ghost use Rattle.firefly_outside.specs.Causes.{HasCause, AppendsPrefix};
 ghost use Rattle.trace_board.specs.Tracked.{tracked_of, IsNoted};
 ghost use Rattle.trace_explain.specs.Words.{legal_text, failed_text, illegal_text, later_text, expected, bad_text, text_found};
-ghost use Rattle.trace_explain.specs.Explained.{IsTellable};
+ghost use Rattle.trace_explain.specs.Explained.{IsExplainable};
 
 use crate::facts::add_facts;
 use crate::rules::rule;
@@ -117,7 +117,7 @@ fn add_bad(buf: &mut [u8], at: usize, line: u64) -> usize
 
 // Adds the text for what was found.
 fn add_found(buf: &mut [u8], at: usize, board: &TraceState, found: &Found) -> usize
-    requires tellable { IsTellable found.now.verdict found.now.layout found.now.failed }
+    requires explainable { IsExplainable found.now.verdict found.now.layout found.now.failed }
     requires room { at + 16384 ≤ length buf.old }
     ensures text { take result buf.new ≡ take at buf.old ++ text_found (tracked_of board.now) found.now }
     ensures near { result ≤ at + 16384 }
@@ -137,13 +137,13 @@ fn add_found(buf: &mut [u8], at: usize, board: &TraceState, found: &Found) -> us
 }
 
 // Sends the text by way of the buffer.
-fn tell_by<O: Sink>(
+fn explain_with<O: Sink>(
     buf: &mut [u8],
     found: &Found,
     board: &TraceState,
     out: &mut O,
 ) -> Result<Verdict, SinkFault>
-    requires tellable { IsTellable found.now.verdict found.now.layout found.now.failed }
+    requires explainable { IsExplainable found.now.verdict found.now.layout found.now.failed }
     requires large { 16384 ≤ length buf.old }
     ensures verdict { IfOk result (λ v. v ≡ found.now.verdict) }
     ensures ok { OnOk result (Appends (O.held out.old) (O.held out.new) (text_found (tracked_of board.now) found.now)) }
@@ -158,13 +158,17 @@ fn tell_by<O: Sink>(
 }
 
 /// Sends the text for what was found, and gives the verdict.
-pub fn tell<O: Sink>(found: &Found, board: &TraceState, out: &mut O) -> Result<Verdict, SinkFault>
-    requires { IsTellable found.now.verdict found.now.layout found.now.failed }
+pub fn explain_verdict<O: Sink>(
+    found: &Found,
+    board: &TraceState,
+    out: &mut O,
+) -> Result<Verdict, SinkFault>
+    requires { IsExplainable found.now.verdict found.now.layout found.now.failed }
     ensures verdict { IfOk result (λ v. v ≡ found.now.verdict) }
     ensures ok { OnOk result (Appends (O.held out.old) (O.held out.new) (text_found (tracked_of board.now) found.now)) }
     ensures err { OnErr result (AppendsPrefix (O.held out.old) (O.held out.new) (text_found (tracked_of board.now) found.now)) }
     ensures cause { HasCause (O.faults out.old) (O.faults out.new) result }
 {
     let mut buf = [0; 16384];
-    tell_by(&mut buf, found, board, out)
+    explain_with(&mut buf, found, board, out)
 }

@@ -6,7 +6,7 @@ use Rattle.trace_core.specs.Text.{ReadsAs, trace_text}
 use Rattle.trace_core.specs.Whole.{numbered}
 use Rattle.barrier_once.specs.Rounds.{triangle}
 use Rattle.command_rounds.proofs.Printed.{lawful}
-use Rattle.command_rounds.proofs.command.write_rounds.Goals as goal
+use Rattle.command_rounds.proofs.command.run_rounds.Goals as goal
 
 pub print-status-requires-clause-lawful : goal.print-status-requires-clause-lawful
 print-status-requires-clause-lawful g c =
