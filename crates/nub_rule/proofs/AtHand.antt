@@ -14,7 +14,6 @@ use Rattle.nub_rule.specs.declared.view.Part.{Part}
 use Rattle.nub_rule.specs.declared.view.Stint.{Stint}
 use Rattle.nub_rule.specs.declared.view.View.{View}
 use Rattle.nub_rule.specs.Items.{queue_of}
-use Rattle.nub_rule.specs.Parts.{Got}
 use Rattle.nub_rule.specs.Known.{EntersStint, Holds, IsIn, Known, known_as, values_of, value_in, IsThread, Makes, PicksShare}
 use Rattle.nub_rule.specs.Places.{most_threads, queue_at, value_at}
 use Rattle.nub_rule.specs.Plays.{Entered, Sat, with_part, recorded, Grows, stint}

@@ -1,5 +1,5 @@
 -- Stints: a step that enters none, the begin of a wait, and the clearing of a bit keep the values along the history.
-use Rattle.std.proofs.Common.{Bool, true, false, cond, eqb, ◌≡◌, ◌≢◌, ℕ, List, [], ◌∷◌, ◌++◌, map, length, set, refl, sym, ap, ◌∙◌, subst, subst₂, append-nil, append_assoc, eq-eqb, ne_eqb, Some, None}
+use Rattle.std.proofs.Common.{Bool, true, false, cond, eqb, ◌≡◌, ◌≢◌, ℕ, List, [], ◌∷◌, ◌++◌, map, set, refl, sym, ap, ◌∙◌, subst, subst₂, append-nil, eq-eqb, ne_eqb, Some, None}
 use Rattle.std.proofs.lemmas.List.{map-append}
 use Rattle.std.proofs.lemmas.List.Elements.{filter-append}
 use Rattle.std.specs.Prelude.{Option as Opt, filter}

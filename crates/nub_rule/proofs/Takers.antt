@@ -1,5 +1,5 @@
 -- In a run those who take a mutex are those who give it back, and then its holder.
-use Rattle.std.proofs.Common.{Bool, true, false, cond, eqb, ◌≡◌, ◌≢◌, ℕ, List, [], ◌∷◌, ◌++◌, map, refl, sym, ap, ◌∙◌, append-nil, append_assoc, eq-eqb, ne_eqb}
+use Rattle.std.proofs.Common.{Bool, true, false, cond, eqb, ◌≡◌, ℕ, List, [], ◌∷◌, ◌++◌, map, refl, sym, ap, ◌∙◌, append-nil, append_assoc, eq-eqb, ne_eqb}
 use Rattle.std.specs.Prelude.{filter}
 use mathlib.Core.Logic.{dite}
 use mathlib.Core.Option.{Option, some, none}
@@ -12,7 +12,7 @@ use Rattle.larch_actions.specs.Actions.{Spec, IsClosed, Leads, MeetsRequires, Me
 use Rattle.nub_rule.specs.Stints.{gives, givers, takes, takers}
 use Rattle.nub_rule.proofs.Each.{put-at, put-else}
 
-listed : Option ℕ → List ℕ
+abbrev listed : Option ℕ → List ℕ
 listed none = []
 listed (some n) = n ∷ []
 
