@@ -26,6 +26,10 @@ use Rattle.index_text.proofs.States.{Following, rows_grammar, skipped_grammar, h
 use Rattle.index_text.proofs.Loops.{Reaches, reach_then, reach_heading, end_path, end_of, end_of_is, end_path_is, end_word_is, hits_push, paths_push, rows_push, path_stays, end_stays, word_stays, reach_hits, reach_paths, reach_rows, lines_of, lines_push}
 use Rattle.index_text.proofs.Reasons.{taken_none, taken_then, taken_asked, taken_all, all_after, lacks_after, lacks_line, lacks_first, lacks_asked}
 
+-- a taker that was told something was told more
+abbrev pub Follows : {S : Type 0} → (S → Told → S → Type 0) → S → S → (Told → Type 0) → (Told → Told → Type 0) → Type 0
+Follows {S} keeps old now Before Takes = (first : S) (t : Told) → keeps first t old → Before t → (u : Told) × keeps first u now × Takes t u
+
 lines_append : {X : Type 0} (f : X → List ℕ) (xs : List X) (x : X) → flat_map f xs ++ f x ≡ flat_map f (xs ++ x ∷ [])
 lines_append f xs x = sym (flat_map-append f xs (x ∷ []) ∙ ap (λ l. flat_map f xs ++ l) (append-nil (f x)))
 
@@ -85,9 +89,9 @@ hits_next {many} {start} {first} {old} {now} {intake} {here} {left} t new after 
     }
 
 -- so many hits as a counter can't count have no room in the bytes
-pub row_end : {many : ℕ} {start : Intake} {first : Option (List ℕ)} {w : List ℕ} {old now : Told} {intake : Intake} {here : Option (List ℕ)} {left : ℕ} → TakenHits many start first (with_word w old) now intake here left
+pub row_end : {many : ℕ} {start : Intake} {first : Option (List ℕ)} (w : List ℕ) (old : Told) {now : Told} {intake : Intake} {here : Option (List ℕ)} {left : ℕ} → TakenHits many start first (with_word w old) now intake here left
     → left ≡ 0 → (n : ℕ) → many ≡ capped n → (before since : ℕ) → TakesRow w n old (with_end now) start intake first here before since (Ok tt)
-row_end {many} {start} {first} {w} {old} {now} {intake} {here} t none n c before since =
+row_end {many} {start} {first} w old {now} {intake} {here} t none n c before since =
     let counted : length now.hits ≡ n = omega (arith, t.count, none, t.taken.lines, intake.read, intake.within, intake.below, c) in (
       now.hits,
       counted,

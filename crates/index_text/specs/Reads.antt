@@ -6,9 +6,9 @@ use Rattle.index_text.specs.Told.{Told}
 use Rattle.index_text.specs.Texts.{ReadsAs}
 
 -- it was told the rows and skipped paths of the text, which has at most so many bytes, and nothing else
-pub record HasTold {S : Type 0} (keeps : S → Told → Type 0) (most : ℕ) (left : Option (List ℕ)) (taker : S) : Type 0 where
+pub record HasTold {S : Type 0} (keeps : S → Told → S → Type 0) (most : ℕ) (left : Option (List ℕ)) (old new : S) : Type 0 where
   pub told : Told
-  pub kept : keeps taker told
+  pub kept : keeps old told new
   pub ended : told.hits ≡ []
   pub ordered : AreOrdered told.rows
   pub text : IfSome left (λ bytes. (length bytes ≤ most) × ReadsAs bytes told.rows told.skipped)

@@ -37,10 +37,11 @@ last_word t = slice_get (words_of t.rows) (length t.rows - 1)
 abbrev pub last_skipped : Told → Option (List ℕ)
 last_skipped t = slice_get t.skipped (length t.skipped - 1)
 
--- a taker that was told the first was told the second now, unless the call failed, and so much was taken
-abbrev pub Tells : {S : Type 0} → (S → Told → Type 0) → S → S → Result (Unit {0}) TextFault → (Told → Type 0) → (Told → Told → Type 0) → Type 0
-Tells keeps old new result Before Takes = (t : Told) → keeps old t → Before t → (t' : Told) × OnOk result (keeps new t') × Takes t t'
+-- A taker that was told something of which this holds was told more, unless the call failed, and so much was taken.
+abbrev pub Tells : {S : Type 0} → (S → Told → S → Type 0) → S → S → Result (Unit {0}) TextFault → (Told → Type 0) → (Told → Told → Type 0) → Type 0
+Tells {S} keeps old new result Before Takes =
+    (first : S) (t : Told) → keeps first t old → Before t → (u : Told) × OnOk result (keeps first u new) × Takes t u
 
 -- a taker was told something of which this holds
-abbrev pub IsTold : {S : Type 0} → (S → Told → Type 0) → S → (Told → Type 0) → Type 0
-IsTold keeps s Before = (t : Told) × keeps s t × Before t
+abbrev pub IsTold : {S : Type 0} → (S → Told → S → Type 0) → S → (Told → Type 0) → Type 0
+IsTold {S} keeps now Before = (first : S) × (t : Told) × keeps first t now × Before t

@@ -4,7 +4,6 @@ ghost use Rattle.std.specs.Io.KnownBytes.{IsAtEnd};
 ghost use Rattle.exact_text.specs.Intake.{IsReported};
 ghost use Rattle.index_text.specs.Faults.{budget, most_bytes, HasReasonIn};
 ghost use Rattle.index_text.specs.Texts.{ReadsAs};
-ghost use Rattle.index_text.specs.Told.{nothing};
 ghost use Rattle.index_text.specs.Reads.{HasTold};
 
 use crate::take::take_rows;
@@ -46,7 +45,10 @@ pub fn read_index_within<I: Source>(
 {
     let mut whole = Whole::new(alloc);
     match tell_index(alloc, input, most, &mut whole) {
-        Ok(()) => whole.finish(),
+        Ok(()) => match whole.finish() {
+            Ok(index) => Ok(index),
+            Err(_) => Err(TextFault::Memory),
+        },
         Err(fault) => Err(fault),
     }
 }
@@ -60,9 +62,8 @@ pub fn tell_index<I: Source, T: Taker>(
     most: u64,
     taker: &mut T,
 ) -> Result<(), TextFault>
-    requires few { most ≤ most_bytes }
-    requires empty { T.keeps taker.old nothing }
-    ensures told { OnOk result (HasTold T.keeps most (I.left input.old) taker.new) }
+    requires { most ≤ most_bytes }
+    ensures told { OnOk result (HasTold T.keeps most (I.left input.old) taker.old taker.new) }
     ensures end { OnOk result (IsAtEnd (I.left input.new)) }
     ensures fault { IfErr result (HasReasonIn most (I.left input.old) (I.left input.new) (I.faults input.old) (I.faults input.new)) }
     ensures reported { IsReported (I.faults input.old) (I.faults input.new) result }
@@ -72,8 +73,10 @@ pub fn tell_index<I: Source, T: Taker>(
         Ok(_) => {}
         Err(fault) => return Err(fault),
     }
-    taker.begin(intake.bytes());
     let mut name = Vec::new(alloc);
     let mut out = Vec::new(alloc);
-    take_rows(&mut intake, input, taker, &mut name, &mut out)
+    match take_rows(&mut intake, input, taker, &mut name, &mut out) {
+        Ok(()) => Ok(()),
+        Err(fault) => Err(fault),
+    }
 }

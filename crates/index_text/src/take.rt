@@ -3,7 +3,7 @@ ghost use Rattle.std.specs.Prelude.{◌≡◌, ℕ, ◌≤◌, [], None, OnOk};
 ghost use Rattle.exact_text.specs.Intake.{IsReported};
 ghost use Rattle.index_text.specs.Numerals.{capped};
 ghost use Rattle.index_text.specs.Texts.{AreHits, ArePaths};
-ghost use Rattle.index_text.specs.Told.{Told, nothing, Tells, IsTold};
+ghost use Rattle.index_text.specs.Told.{Told, Tells, IsTold};
 ghost use Rattle.index_text.specs.Takes.{TakesHit, TakesPaths, TakesRow, TakesRows, TakesSkipped};
 
 use crate::lines::Prefix;
@@ -122,11 +122,11 @@ pub fn take_rows<I: Source, T: Taker>(
     name: &mut Vec<u8>,
     out: &mut Vec<u8>,
 ) -> Result<(), TextFault>
-    requires empty { T.keeps taker.old nothing }
-    ensures taken { (t : Told) × OnOk result (T.keeps taker.new t) × TakesRows t intake.old intake.new (I.left input.old) (I.left input.new)
-        (I.faults input.old) (I.faults input.new) result }
+    ensures taken { (t : Told) × OnOk result (T.keeps taker.old t taker.new) × TakesRows t intake.old intake.new (I.left input.old)
+        (I.left input.new) (I.faults input.old) (I.faults input.new) result }
     ensures reported { IsReported (I.faults input.old) (I.faults input.new) result }
 {
+    taker.begin(intake.bytes());
     loop {
         match intake.goes_on(input) {
             Ok(true) => {}

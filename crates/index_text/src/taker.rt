@@ -8,38 +8,38 @@ use std::alloc::AllocError;
 /// What is told the rows and skipped paths of an index text, in their order, while it is read (`tell_index`). It decides what it keeps.
 pub trait Taker {
     // What has become of a taker that was told this.
-    ghost keeps: { Self → Told → Type 0 };
+    ghost keeps: { Self → Told → Self → Type 0 };
 
     /// Is shown the first bytes of the text. Called once, and first.
-    fn begin(&mut self, first: &[u8])
-        requires { keeps self.old nothing }
-        ensures { keeps self.new nothing };
+    fn begin(&mut self, start: &[u8])
+        ensures { keeps self.old nothing self.new };
 
     /// Is told the word of the next row.
     fn begin_row(&mut self, word: &[u8]) -> Result<(), AllocError>
-        ensures { (t : Told) → keeps self.old t → t.hits ≡ [] → OnOk result (keeps self.new (with_word word.now t)) };
+        ensures { (first : Self) (t : Told) → keeps first t self.old → t.hits ≡ [] → OnOk result (keeps first (with_word word.now t) self.new) };
 
     /// Is told the next file of the row: its path, how often it has the word, and on which line first.
     fn hit(&mut self, path: &[u8], count: u64, line: u64) -> Result<(), AllocError>
-        ensures { (t : Told) → keeps self.old t → OnOk result (keeps self.new (with_hit (record { path = path.now; count = count; line = line }) t)) };
+        ensures { (first : Self) (t : Told) → keeps first t self.old
+            → OnOk result (keeps first (with_hit (record { path = path.now; count = count; line = line }) t) self.new) };
 
     /// Is told that the row has ended.
     fn end_row(&mut self) -> Result<(), AllocError>
-        ensures { (t : Told) → keeps self.old t → OnOk result (keeps self.new (with_end t)) };
+        ensures { (first : Self) (t : Told) → keeps first t self.old → OnOk result (keeps first (with_end t) self.new) };
 
     /// Is told the next skipped path.
     fn skip(&mut self, path: &[u8]) -> Result<(), AllocError>
-        ensures { (t : Told) → keeps self.old t → OnOk result (keeps self.new (with_skipped path.now t)) };
+        ensures { (first : Self) (t : Told) → keeps first t self.old → OnOk result (keeps first (with_skipped path.now t) self.new) };
 
     /// The word of the last row that has ended.
     fn last_word(&self) -> Option<&[u8]>
-        ensures { (t : Told) → keeps self.now t → option_copied result ≡ last_word t };
+        ensures { (first : Self) (t : Told) → keeps first t self.now → option_copied result ≡ last_word t };
 
     /// The path of the last file of the row under way.
     fn last_path(&self) -> Option<&[u8]>
-        ensures { (t : Told) → keeps self.now t → option_copied result ≡ last_path t };
+        ensures { (first : Self) (t : Told) → keeps first t self.now → option_copied result ≡ last_path t };
 
     /// The last skipped path.
     fn last_skipped(&self) -> Option<&[u8]>
-        ensures { (t : Told) → keeps self.now t → option_copied result ≡ last_skipped t };
+        ensures { (first : Self) (t : Told) → keeps first t self.now → option_copied result ≡ last_skipped t };
 }

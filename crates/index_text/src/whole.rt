@@ -3,7 +3,6 @@ ghost use Rattle.std.specs.Prelude.{◌≡◌, [], OnOk, IfOk};
 ghost use Rattle.std.specs.Option.{option_copied};
 
 use crate::taker::Taker;
-use exact_text::TextFault;
 use index_table::{Draft, Index};
 use std::alloc::{AllocError, Global};
 use std::str::from_utf8;
@@ -18,13 +17,11 @@ pub struct Whole {
 
 impl Whole {
     ghost use Rattle.index_table.specs.Rows.{AreOrdered};
-    ghost use Rattle.index_text.specs.Told.{Told, nothing};
+    ghost use Rattle.index_text.specs.Told.{Told};
     ghost use Rattle.index_text.specs.Whole.{IsWhole};
 
     /// Nothing yet.
-    pub fn new(alloc: Global) -> Whole
-        ensures { IsWhole result nothing }
-    {
+    pub fn new(alloc: Global) -> Whole {
         Whole {
             alloc,
             draft: Draft::new(alloc, &[]),
@@ -33,7 +30,7 @@ impl Whole {
     }
 
     /// The index that was told, once its last row has ended.
-    pub fn finish(self) -> Result<Index, TextFault>
+    pub fn finish(self) -> Result<Index, AllocError>
         requires { (t : Told) × IsWhole self t × (t.hits ≡ []) × AreOrdered t.rows }
         ensures { (t : Told) → IsWhole self t → IfOk result (λ i. (i.rows ≡ t.rows) × (i.skipped ≡ t.skipped)) }
     {
@@ -43,20 +40,19 @@ impl Whole {
             word,
         } = self;
         drop(word);
-        match draft.finish() {
-            Ok(index) => Ok(index),
-            Err(_) => Err(TextFault::Memory),
-        }
+        draft.finish()
     }
 }
 
 impl Taker for Whole {
     ghost use Rattle.index_text.specs.Whole.{IsWhole};
 
-    ghost keeps = { IsWhole };
+    ghost keeps = { λ first t now. IsWhole now t };
 
-    fn begin(&mut self, first: &[u8]) {
-        self.draft = Draft::new(self.alloc, first);
+    // The first bytes make the key of the table.
+    fn begin(&mut self, start: &[u8]) {
+        self.draft = Draft::new(self.alloc, start);
+        self.word.clear();
     }
 
     fn begin_row(&mut self, word: &[u8]) -> Result<(), AllocError> {

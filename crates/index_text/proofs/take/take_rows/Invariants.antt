@@ -6,7 +6,9 @@ use Rattle.index_text.proofs.take.take_rows.Given as goal
 
 abbrev pub invariant-loop-fault : goal.invariant-loop-fault
 invariant-loop-fault g l = record {
-  taken : (t : Told) × g.T.Taker.keeps l.taker t × TakenRows l.initial.intake (g.I.Source.left l.initial.input) t l.intake (g.I.Source.left l.input);
+  told : Told;
+  kept : g.T.Taker.keeps l.fn.taker told l.taker;
+  taken : TakenRows l.initial.intake (g.I.Source.left l.initial.input) told l.intake (g.I.Source.left l.input);
   unfailed : g.I.Source.faults l.input ≡ g.I.Source.faults l.initial.input;
 }
 
