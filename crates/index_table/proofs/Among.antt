@@ -1,7 +1,7 @@
 -- The paths of a draft are those of its hits.
-use Rattle.std.proofs.Common.{◌≡◌, ◌⊎◌, ℕ, ◌<◌, min, Bool, true, false, List, [], ◌∷◌, ◌++◌, length, get_or, take, drop, map, arith, refl, sym, ap, subst, ◌∙◌, ⊎_elim, inl, inr, All, Option, Some, None, String, position}
+use Rattle.std.proofs.Common.{◌≡◌, ◌⊎◌, ℕ, zero, suc, ◌<◌, min, Bool, true, false, List, [], ◌∷◌, ◌++◌, length, get_or, take, drop, map, arith, refl, sym, ap, subst, ◌∙◌, ⊎_elim, inl, inr, All, Option, Some, None, String, position}
 use Rattle.std.specs.Prelude.{MatchBool}
-use Rattle.std.specs.List.{Contains, flat_map}
+use Rattle.std.specs.List.{Contains, flat_map, AllByRecursion}
 use Rattle.std.specs.Str.{bytes_eq}
 use Rattle.std.specs.String.{string_bytes}
 use Rattle.std.specs.Map.{keys_of}
@@ -21,6 +21,7 @@ use Rattle.index_table.specs.Paths.{texts, AreNumbered}
 use Rattle.index_table.specs.Rows.{hits_of, rows_of, paths_of, HasPath, IsAmong, AreColumns, AreUsed}
 use Rattle.index_table.proofs.Columns.{drafted, length_hits, paths_hits, ends_same}
 use Rattle.index_table.proofs.RowPaths.{paths_to, paths_from}
+use Rattle.index_table.proofs.Named.{texts_keys}
 
 -- the same answer to another question
 pub same_answer : (b : Bool) (P Q : Type 0) → (P → Q) → (Q → P) → MatchBool b P (¬ P) → MatchBool b Q (¬ Q)
@@ -79,9 +80,18 @@ there_is {A} (d ∷ rest) p at is =
     let same : p ≡ string_bytes (get_or es at d).0 = (bytes_decides p (string_bytes (get_or es at d).0)).0 (subst (λ k. bytes_eq p (string_bytes k) ≡ true) key h.1) in
     subst (Contains (texts es)) (sym same) (to_map (λ (e : String A × ℕ). string_bytes e.0) es (get_or es at d) (Contains-get_or es at d within))
 
+-- what holds of each holds of one that is there
+holds_there : {X : Type 0} (P : X → Type 0) (xs : List X) (x : X) → AllByRecursion P xs → Contains xs x → P x
+holds_there P [] x all has = absurd (omega (arith, has.1))
+holds_there {X} P (y ∷ xs) x all has = by has.0 has.1 has.2
+  where
+    by : (k : ℕ) → k < length (y ∷ xs) → get_or (y ∷ xs) k x ≡ x → P x
+    by zero below e = subst P e all.0
+    by (suc k) below e = holds_there P xs x all.1 (k, omega (arith, below), e)
+
 -- no place was found
 pub not_there : {A : Type 0} (es : List (String A × ℕ)) (p : List ℕ) → position (λ k. bytes_eq p (string_bytes k)) (keys_of es) ≡ None → ¬ Contains (texts es) p
 not_there {A} es p none has =
-    let n = from_map (λ (e : String A × ℕ). string_bytes e.0) es p has in
+    let n = from_map (λ (k : String A). string_bytes k) (keys_of es) p (subst (λ (l : List (List ℕ)). Contains l p) (sym (texts_keys es)) has) in
     let absent = (Missing-position (λ k. bytes_eq p (string_bytes k)) es none).absent in
-    false≢true (sym (All-contains (λ e. bytes_eq p (string_bytes e.0) ≡ false) es n.0 absent n.1) ∙ (bytes_decides p (string_bytes n.0.0)).1 (sym n.2))
+    false≢true (sym (holds_there (λ k. bytes_eq p (string_bytes k) ≡ false) (keys_of es) n.0 absent n.1) ∙ (bytes_decides p (string_bytes n.0)).1 (sym n.2))

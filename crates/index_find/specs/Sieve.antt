@@ -1,0 +1,17 @@
+-- A taker that keeps what a query asks for.
+use Rattle.std.specs.Prelude.{◌≡◌}
+use Rattle.index_text.specs.Told.{Told, last_word, last_path, last_skipped}
+use Rattle.index_find.specs.Asked.{asks_for, negates}
+use Rattle.index_find.specs.Sieved.{Keeps}
+use Rattle.index_find.specs.declared.sieve.Sieve.{Sieve}
+
+-- one that was told this
+pub record IsSieve (first : Sieve) (told : Told) (now : Sieve) : Type 0 where
+  pub query : now.query ≡ first.query
+  pub keeps : Keeps now.query now.draft told
+  pub every_path : now.every_path ≡ negates now.query
+  pub wanted : now.wanted ≡ asks_for told.word now.query
+  pub word : now.word.items ≡ told.word
+  pub last_word : now.last_word ≡ last_word told
+  pub last_path : now.last_path ≡ last_path told
+  pub last_skipped : now.last_skipped ≡ last_skipped told
