@@ -29,13 +29,13 @@ same_answer true P Q to from h = to h
 same_answer false P Q to from h = λ q. h (from q)
 
 module _ (ps : List (List ℕ)) {words : List (List ℕ)} {ns : List ℕ} {fs : List Figures} {ends : List ℕ} {closed : ℕ} (are : AreColumns (length ps) words ns fs ends closed) where
-  all : List Hit
+  abbrev all : List Hit
   all = hits_of ps ns fs
 
   long : length all ≡ length ns
   long = length_hits ps ns fs are.same
 
-  prefix : List Hit
+  abbrev prefix : List Hit
   prefix = take closed all
 
   whole : paths_of prefix ++ paths_of (drop closed all) ≡ map (λ n. get_or ps n []) ns
@@ -44,7 +44,7 @@ module _ (ps : List (List ℕ)) {words : List (List ℕ)} {ns : List ℕ} {fs : 
   fit : AreEnds prefix 0 ends
   fit = ends_same (take closed ns) prefix 0 ends (length-take closed ns ∙ ap (λ n. min closed n) (sym long) ∙ sym (length-take closed all)) are.fit
 
-  cuts : List (List Hit)
+  abbrev cuts : List (List Hit)
   cuts = parts prefix 0 ends
 
   joined : flat_map (λ h. h) cuts ≡ prefix
@@ -83,11 +83,11 @@ there_is {A} (d ∷ rest) p at is =
 -- what holds of each holds of one that is there
 holds_there : {X : Type 0} (P : X → Type 0) (xs : List X) (x : X) → AllByRecursion P xs → Contains xs x → P x
 holds_there P [] x all has = absurd (omega (arith, has.1))
-holds_there {X} P (y ∷ xs) x all has = by has.0 has.1 has.2
+holds_there {X} P (y ∷ xs) x all has = by (λ h. holds_there P xs x all.1 h) has.0 has.1 has.2
   where
-    by : (k : ℕ) → k < length (y ∷ xs) → get_or (y ∷ xs) k x ≡ x → P x
-    by zero below e = subst P e all.0
-    by (suc k) below e = holds_there P xs x all.1 (k, omega (arith, below), e)
+    by : (Contains xs x → P x) → (k : ℕ) → k < length (y ∷ xs) → get_or (y ∷ xs) k x ≡ x → P x
+    by rest zero below e = subst P e all.0
+    by rest (suc k) below e = rest (k, omega (arith, below), e)
 
 -- no place was found
 pub not_there : {A : Type 0} (es : List (String A × ℕ)) (p : List ℕ) → position (λ k. bytes_eq p (string_bytes k)) (keys_of es) ≡ None → ¬ Contains (texts es) p
