@@ -1,8 +1,9 @@
 -- What a sieve keeps as it is told more.
-use Rattle.std.proofs.Common.{◌≡◌, ◌⊎◌, ℕ, ◌<◌, Bool, true, false, List, [], ◌∷◌, ◌++◌, length, get_or, map, arith, refl, sym, ap, subst, ◌∙◌, ⊎_elim, inl, inr, All}
+use Rattle.std.proofs.Common.{◌≡◌, ◌⊎◌, ℕ, ◌<◌, ◌-◌, Bool, true, false, List, [], ◌∷◌, ◌++◌, length, get_or, slice_get, map, Option, Some, None, Result, Ok, Err, OnOk, IfOk, arith, refl, sym, ap, subst, ◌∙◌, ⊎_elim, inl, inr, All}
 use Rattle.std.specs.List.{Contains, AllPairs}
 use Rattle.std.proofs.lemmas.Bool.{false≢true}
-use Rattle.std.proofs.lemmas.List.{get_or_append_left, get_or_push, length_push, map-append}
+use Rattle.std.proofs.lemmas.Option.{slice_get-get_or}
+use Rattle.std.proofs.lemmas.List.{length-map, get_or_append_left, get_or_push, length_push, map-append}
 use Rattle.std.proofs.lemmas.List.Elements.{All-push, Contains-get_or, Contains-append_left, Contains-push, Contains-push_cases}
 use Rattle.std.proofs.lemmas.List.Quantifiers.{all_pairs_push}
 use Rattle.word_index.specs.Index.{Hit, Row, IsBelow, IsRising}
@@ -18,7 +19,7 @@ no_element : {X : Type 0} (x : X) (C : Type 0) → Contains [] x → C
 no_element x C has = absurd (omega (arith, has.1))
 
 -- fewer of none are none
-none_kept : (hs gs : List Hit) → ((h : Hit) → Contains hs h → Contains gs h) → gs ≡ [] → hs ≡ []
+pub none_kept : (hs gs : List Hit) → ((h : Hit) → Contains hs h → Contains gs h) → gs ≡ [] → hs ≡ []
 none_kept [] gs sub none = refl
 none_kept (h ∷ hs) gs sub none = no_element h (h ∷ hs ≡ []) (subst (λ (l : List Hit). Contains l h) none (sub h (Contains-get_or (h ∷ hs) 0 h (omega arith))))
 
@@ -138,9 +139,9 @@ module _ {steps : List Step} {d : Drafted} {t : Told} (k : Keeps steps d t) wher
     paths = k.paths;
     paths_here = λ every g has. ⊎_elim
         (λ (old : Contains t.hits g). ⊎_elim
-            (λ (row : HasPath d.rows g.path). inl row)
-            (λ (here : Contains (paths_of d.hits) g.path). inr (subst (λ (l : List (List ℕ)). Contains l g.path) (sym (paths_push d.hits h)) (Contains-append_left (paths_of d.hits) (h.path ∷ []) g.path here)))
-            (k.paths_here every g old))
+        (λ (row : HasPath d.rows g.path). inl row)
+        (λ (here : Contains (paths_of d.hits) g.path). inr (subst (λ (l : List (List ℕ)). Contains l g.path) (sym (paths_push d.hits h)) (Contains-append_left (paths_of d.hits) (h.path ∷ []) g.path here)))
+        (k.paths_here every g old))
         (λ (same : h ≡ g). inr (to_map path (d.hits ++ h ∷ []) g (subst (Contains (d.hits ++ h ∷ [])) same (Contains-push d.hits h))))
         (Contains-push_cases t.hits h g has);
     rows = k.rows;
@@ -171,17 +172,17 @@ module _ {steps : List Step} {d : Drafted} {t : Told} (k : Keeps steps d t) wher
     wanted = λ row has asked. ⊎_elim
         (λ (old : Contains t.rows row). Contains-append_left d.rows (kept_row w ∷ []) row (k.wanted row old asked))
         (λ (same : told_row ≡ row).
-            let here : asks_for t.word steps ≡ true = ap (λ (r : Row). asks_for r.word steps) same ∙ asked in
-            let rows : kept_row w ≡ told_row = λ i. record { word = is i; hits = k.wanted_hits here i } in
-            subst (Contains (d.rows ++ kept_row w ∷ [])) (rows ∙ same) (Contains-push d.rows (kept_row w)))
+        let here : asks_for t.word steps ≡ true = ap (λ (r : Row). asks_for r.word steps) same ∙ asked in
+        let rows : kept_row w ≡ told_row = λ i. record { word = is i; hits = k.wanted_hits here i } in
+        subst (Contains (d.rows ++ kept_row w ∷ [])) (rows ∙ same) (Contains-push d.rows (kept_row w)))
         (Contains-push_cases t.rows told_row row has);
     wanted_hits = λ _. refl;
     paths = λ every p has. ⊎_elim
         (λ (old : HasPath t.rows p). path_left d.rows (kept_row w) p (k.paths every p old))
         (λ (here : Contains (paths_of t.hits) p). ⊎_elim
-            (λ (row : HasPath d.rows p). path_left d.rows (kept_row w) p row)
-            (λ (kept : Contains (paths_of d.hits) p). (kept_row w, Contains-push d.rows (kept_row w), kept))
-            (path_here every p here))
+        (λ (row : HasPath d.rows p). path_left d.rows (kept_row w) p row)
+        (λ (kept : Contains (paths_of d.hits) p). (kept_row w, Contains-push d.rows (kept_row w), kept))
+        (path_here every p here))
         (path_cases t.rows told_row p has);
     paths_here = λ every h has. no_element h (IsAmong (record { rows = d.rows ++ kept_row w ∷ []; hits = []; skipped = d.skipped }) h.path) has;
     rows = λ row has. ⊎_elim
@@ -190,10 +191,10 @@ module _ {steps : List Step} {d : Drafted} {t : Told} (k : Keeps steps d t) wher
         (Contains-push_cases d.rows (kept_row w) row has);
     hits = λ h has. has;
     ordered = λ o. record {
-        words = subst IsRising (sym (words_push d.rows (kept_row w))) (subst (λ (v : List ℕ). IsRising (words_of d.rows ++ v ∷ [])) (sym is)
-            (sifted (words_of d.rows) (words_of t.rows) t.word (words_among d.rows t.rows k.rows) (λ _. (k.ordered (ordered_front t.rows told_row o)).words) (subst IsRising (words_push t.rows told_row) o.words)));
-        hits = All-push (λ (r : Row). IsRising (paths_of r.hits)) d.rows (kept_row w) (k.ordered (ordered_front t.rows told_row o)).hits (k.rising (last_rises t.rows told_row o));
-      };
+      words = subst IsRising (sym (words_push d.rows (kept_row w))) (subst (λ (v : List ℕ). IsRising (words_of d.rows ++ v ∷ [])) (sym is)
+          (sifted (words_of d.rows) (words_of t.rows) t.word (words_among d.rows t.rows k.rows) (λ _. (k.ordered (ordered_front t.rows told_row o)).words) (subst IsRising (words_push t.rows told_row) o.words)));
+      hits = All-push (λ (r : Row). IsRising (paths_of r.hits)) d.rows (kept_row w) (k.ordered (ordered_front t.rows told_row o)).hits (k.rising (last_rises t.rows told_row o));
+    };
     rising = λ r. r;
   }
 
@@ -207,9 +208,9 @@ module _ {steps : List Step} {d : Drafted} {t : Told} (k : Keeps steps d t) wher
     paths = λ every p has. ⊎_elim
         (λ (old : HasPath t.rows p). k.paths every p old)
         (λ (here : Contains (paths_of t.hits) p). ⊎_elim
-            (λ (row : HasPath d.rows p). row)
-            (λ (kept : Contains (paths_of d.hits) p). no_element p (HasPath d.rows p) (subst (λ (l : List Hit). Contains (paths_of l) p) none kept))
-            (path_here every p here))
+        (λ (row : HasPath d.rows p). row)
+        (λ (kept : Contains (paths_of d.hits) p). no_element p (HasPath d.rows p) (subst (λ (l : List Hit). Contains (paths_of l) p) none kept))
+        (path_here every p here))
         (path_cases t.rows told_row p has);
     paths_here = λ every h has. no_element h (IsAmong d h.path) has;
     rows = λ row has. let s = k.rows row has in (s.0, Contains-append_left t.rows (told_row ∷ []) s.0 s.1, s.2);
@@ -234,3 +235,20 @@ module _ {steps : List Step} {d : Drafted} {t : Told} (k : Keeps steps d t) wher
     );
     paths = λ every p. (path_back p, k.paths every p);
   }
+
+-- the same of what follows
+pub then_ok : {T E : Type 0} (r : Result T E) (P Q : Type 0) → (P → Q) → OnOk r P → OnOk r Q
+then_ok (Ok x) P Q f h = f h
+then_ok (Err e) P Q f h = tt
+
+-- no hit is the last
+pub none_last : (hs : List Hit) → slice_get (paths_of hs) (length hs - 1) ≡ None → hs ≡ []
+none_last [] e = refl
+none_last (h ∷ hs) e = absurd (none_some (sym e ∙ slice_get-get_or (paths_of (h ∷ hs)) (length (h ∷ hs) - 1) [] (omega (arith, length-map (h ∷ hs) path))))
+  where
+    none_some : {X : Type 0} {x : X} → None ≡ Some x → ⊥
+    none_some e = cc
+
+pub then_if : {T E : Type 0} (r : Result T E) (P Q : T → Type 0) → ((x : T) → P x → Q x) → IfOk r P → IfOk r Q
+then_if (Ok x) P Q f h = f x h
+then_if (Err e) P Q f h = tt

@@ -2,12 +2,14 @@
 use Rattle.std.specs.Prelude.{◌≡◌}
 use Rattle.index_text.specs.Told.{Told, last_word, last_path, last_skipped}
 use Rattle.index_find.specs.Asked.{asks_for, negates}
+use Rattle.index_find.specs.Postfix.{postfix, tree_of}
 use Rattle.index_find.specs.Sieved.{Keeps}
 use Rattle.index_find.specs.declared.sieve.Sieve.{Sieve}
 
 -- one that was told this
 pub record IsSieve (first : Sieve) (told : Told) (now : Sieve) : Type 0 where
   pub query : now.query ≡ first.query
+  pub whole : now.query ≡ postfix (tree_of now.query)
   pub keeps : Keeps now.query now.draft told
   pub every_path : now.every_path ≡ negates now.query
   pub wanted : now.wanted ≡ asks_for told.word now.query

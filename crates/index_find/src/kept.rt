@@ -19,20 +19,18 @@ pub fn keep_hit(
     let Ok(text) = from_utf8(path) else {
         return Err(AllocError);
     };
-    if wanted || !draft.has_path(text) {
-        draft.hit(text, count, line)
-    } else {
-        Ok(())
+    if !wanted && draft.has_path(text) {
+        return Ok(());
     }
+    draft.hit(text, count, line)
 }
 
 /// Keeps the row where it is wanted, or some file of it is kept.
 pub fn keep_row(draft: &mut Draft, wanted: bool, word: &[u8]) -> Result<(), AllocError>
     ensures { OnOk result (KeepsRow wanted draft.old word.now draft.new) }
 {
-    if wanted || draft.last_path().is_some() {
-        draft.end_row(word)
-    } else {
-        Ok(())
+    if !wanted && draft.last_path().is_none() {
+        return Ok(());
     }
+    draft.end_row(word)
 }

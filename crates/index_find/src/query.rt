@@ -90,7 +90,8 @@ impl Query {
 
     /// Whether it has a `!`.
     pub fn negates(&self) -> bool
-        ensures { result ≡ negates self.now }
+        ensures negates { result ≡ negates self.now }
+        ensures whole { self.now ≡ postfix (tree_of self.now) }
     {
         for step in &self.steps {
             if turns(step) {

@@ -32,11 +32,11 @@ returns-in-Ok-take_rows-clause-end g c = c.in-Ok-take_rows.ensures.taken.2.3.end
 pub returns-in-Ok-take_rows-clause-reported : goal.returns-in-Ok-take_rows-clause-reported
 returns-in-Ok-take_rows-clause-reported g c = same_reported _ _ _ (c.in-Ok-take_rows.ensures.reported.unfailed ∙ c.in-Ok.ensures.reported.unfailed)
 
-pub returns-in-Err-take_rows-clause-fault : goal.returns-in-Err-take_rows-clause-fault
-returns-in-Err-take_rows-clause-fault g c =
+pub returns-clause-fault : goal.returns-clause-fault
+returns-clause-fault g c =
     let n = c.new-intake.ensures in
     text_fault c.new-intake.result (g.I.Source.left c.args.input.now) c.args.most n.rest n.given n.budget n.lines c.fill.new.self (g.I.Source.left c.fill.new.input) (g.I.Source.left c.take_rows.new.input) (g.I.Source.faults c.args.input.now) (g.I.Source.faults c.fill.new.input)
     c.in-Ok.field-0 c.in-Ok.ensures.filled (g.I.Source.faults c.take_rows.new.input) c.in-Err-take_rows.fault c.in-Ok.ensures.reported.unfailed c.in-Err-take_rows.ensures.taken.2
 
-pub returns-in-Err-take_rows-clause-reported : goal.returns-in-Err-take_rows-clause-reported
-returns-in-Err-take_rows-clause-reported g c = fault_reported _ _ _ c.in-Err-take_rows.fault c.in-Ok.ensures.reported.unfailed c.in-Err-take_rows.ensures.reported
+pub returns-clause-reported : goal.returns-clause-reported
+returns-clause-reported g c = fault_reported _ _ _ c.in-Err-take_rows.fault c.in-Ok.ensures.reported.unfailed c.in-Err-take_rows.ensures.reported

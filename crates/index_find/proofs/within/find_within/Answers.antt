@@ -1,0 +1,30 @@
+use Rattle.std.proofs.Common.{List, ℕ, ap, sym, refl, subst}
+use Rattle.exact_text.proofs.Reported.{same_reported, fault_reported}
+use Rattle.index_find.specs.Postfix.{tree_of}
+use Rattle.index_find.specs.Meaning.{AreMeant}
+use Rattle.index_find.specs.declared.query.Step.{Step}
+use Rattle.index_find.proofs.within.find_within.Goals as goal
+
+pub answer-requires : goal.answer-requires
+answer-requires g c =
+    let h = c.in-Ok.ensures.told in
+    (c.new.result, h.told, h.kept, h.ended, h.ordered)
+
+pub returns-in-Ok-answer-clause-found : goal.returns-in-Ok-answer-clause-found
+returns-in-Ok-answer-clause-found g c =
+    let h = c.in-Ok.ensures.told in
+    record {
+      rows = h.told.rows;
+      skipped = h.told.skipped;
+      read = h.text;
+      meant = subst (λ (q : List Step). AreMeant h.told.rows (tree_of q) c.in-Ok-answer.paths.items) c.new.ensures (c.in-Ok-answer.ensures c.new.result h.told h.kept);
+    }
+
+pub returns-in-Ok-answer-clause-reported : goal.returns-in-Ok-answer-clause-reported
+returns-in-Ok-answer-clause-reported g c = same_reported _ _ _ c.in-Ok.ensures.reported.unfailed
+
+pub returns-in-Err-answer-clause-reported : goal.returns-in-Err-answer-clause-reported
+returns-in-Err-answer-clause-reported g c = same_reported _ _ _ c.in-Ok.ensures.reported.unfailed
+
+pub returns-in-Err-clause-reported : goal.returns-in-Err-clause-reported
+returns-in-Err-clause-reported g c = fault_reported _ _ _ c.in-Err.fault refl c.in-Err.ensures.reported
