@@ -9,7 +9,7 @@ use Rattle.std.proofs.lemmas.List.Quantifiers.{all_pairs_push}
 use Rattle.word_index.specs.Index.{Hit, Row, IsBelow, IsRising}
 use Rattle.word_index.proofs.Images.{to_map, from_map}
 use Rattle.index_table.specs.Rows.{Drafted, AreOrdered, HasFile, HasPath, IsAmong, paths_of, words_of}
-use Rattle.index_text.specs.Told.{Told, nothing, with_word, with_hit, with_end, with_skipped}
+use Rattle.index_text.specs.Told.{Told, nothing, with_word, with_hit, with_end, with_skipped, last_word, last_path, last_skipped}
 use Rattle.index_find.specs.Asked.{asks_for, negates}
 use Rattle.index_find.specs.Kept.{KeepsHit, KeepsRow}
 use Rattle.index_find.specs.Sieved.{IsSomeOf, Keeps, Serves}
@@ -153,9 +153,9 @@ module _ {steps : List Step} {d : Drafted} {t : Told} (k : Keeps steps d t) wher
     rising = λ r. subst IsRising (sym (paths_push d.hits h)) (sifted (paths_of d.hits) (paths_of t.hits) h.path (paths_among d.hits t.hits k.hits) k.rising (subst IsRising (paths_push t.hits h) r));
   }
 
-  pub keeps_hit : (wanted : Bool) (h : Hit) (new : Drafted) → wanted ≡ asks_for t.word steps → KeepsHit wanted d h new → Keeps steps new (with_hit h t)
-  keeps_hit wanted h new is (inl more) = subst (λ (e : Drafted). Keeps steps e (with_hit h t)) (sym more) (hit_more h)
-  keeps_hit wanted h new is (inr same) = subst (λ (e : Drafted). Keeps steps e (with_hit h t)) (sym same.2) (passes_hit h (sym is ∙ same.0) (λ _. same.1))
+  pub keeps_hit : (wanted every : Bool) (h : Hit) (new : Drafted) → wanted ≡ asks_for t.word steps → every ≡ negates steps → KeepsHit wanted every d h new → Keeps steps new (with_hit h t)
+  keeps_hit wanted every h new is all (inl more) = subst (λ (e : Drafted). Keeps steps e (with_hit h t)) (sym more) (hit_more h)
+  keeps_hit wanted every h new is all (inr same) = subst (λ (e : Drafted). Keeps steps e (with_hit h t)) (sym same.2) (passes_hit h (sym is ∙ same.0) (λ e. same.1 (all ∙ e)))
 
   abbrev told_row : Row
   told_row = record { word = t.word; hits = t.hits }
@@ -252,3 +252,21 @@ none_last (h ∷ hs) e = absurd (none_some (sym e ∙ slice_get-get_or (paths_of
 pub then_if : {T E : Type 0} (r : Result T E) (P Q : T → Type 0) → ((x : T) → P x → Q x) → IfOk r P → IfOk r Q
 then_if (Ok x) P Q f h = f x h
 then_if (Err e) P Q f h = tt
+
+-- what came last
+last_push : {X : Type 0} (xs : List X) (x : X) (n : ℕ) → n ≡ length xs → slice_get (xs ++ x ∷ []) n ≡ Some x
+last_push xs x n is = slice_get-get_or (xs ++ x ∷ []) n x (omega (arith, is, length_push xs x)) ∙ ap Some (get_or_push xs x x n (sym is))
+
+pub last_skipped_is : (t : Told) (p : List ℕ) → last_skipped (with_skipped p t) ≡ Some p
+last_skipped_is t p = last_push t.skipped p (length (t.skipped ++ p ∷ []) - 1) (omega (arith, length_push t.skipped p))
+
+pub last_path_is : (t : Told) (h : Hit) → last_path (with_hit h t) ≡ Some h.path
+last_path_is t h =
+    let n = length (t.hits ++ h ∷ []) - 1 in
+    ap (λ (l : List (List ℕ)). slice_get l n) (paths_push t.hits h) ∙ last_push (paths_of t.hits) h.path n (omega (arith, length_push t.hits h, length-map t.hits path))
+
+pub last_word_is : (t : Told) → last_word (with_end t) ≡ Some t.word
+last_word_is t =
+    let row : Row = record { word = t.word; hits = t.hits } in
+    let n = length (t.rows ++ row ∷ []) - 1 in
+    ap (λ (l : List (List ℕ)). slice_get l n) (words_push t.rows row) ∙ last_push (words_of t.rows) t.word n (omega (arith, length_push t.rows row, length-map t.rows word))

@@ -6,16 +6,20 @@ use index_table::Draft;
 use std::alloc::AllocError;
 use std::str::from_utf8;
 
-/// Keeps the file where its row is wanted, or where no file of its path is kept yet.
+/// Keeps the file where its row is wanted, or where every path is wanted and no file of this one is kept yet.
 pub fn keep_hit(
     draft: &mut Draft,
     wanted: bool,
+    every_path: bool,
     path: &[u8],
     count: u64,
     line: u64,
 ) -> Result<(), AllocError>
-    ensures { OnOk result (KeepsHit wanted draft.old (record { path = path.now; count = count; line = line }) draft.new) }
+    ensures { OnOk result (KeepsHit wanted every_path draft.old (record { path = path.now; count = count; line = line }) draft.new) }
 {
+    if !wanted && !every_path {
+        return Ok(());
+    }
     let Ok(text) = from_utf8(path) else {
         return Err(AllocError);
     };

@@ -94,10 +94,14 @@ impl Taker for Sieve {
 
     fn hit(&mut self, path: &[u8], count: u64, line: u64) -> Result<(), AllocError> {
         self.last_path.set(path)?;
-        if self.wanted || self.every_path {
-            return keep_hit(&mut self.draft, self.wanted, path, count, line);
-        }
-        Ok(())
+        keep_hit(
+            &mut self.draft,
+            self.wanted,
+            self.every_path,
+            path,
+            count,
+            line,
+        )
     }
 
     fn end_row(&mut self) -> Result<(), AllocError> {

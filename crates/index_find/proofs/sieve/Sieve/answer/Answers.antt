@@ -18,5 +18,5 @@ returns c = λ first t k.
     let query = c.args.self.query in
     then_if c.find.result _ _
     (λ v m. subst (λ (q : List Step). AreMeant t.rows (tree_of q) v.items) k.query
-        (meant_same (keeps_serves k.keeps) (tree_of query) k.whole v.items (subst (λ (rs : List Row). AreMeant rs (tree_of query) v.items) c.in_ok-index.ensures.0 m)))
+    (meant_same (keeps_serves k.keeps) (tree_of query) k.whole v.items (subst (λ (rs : List Row). AreMeant rs (tree_of query) v.items) c.in_ok-index.ensures.0 m)))
     c.find.ensures
