@@ -21,5 +21,5 @@ returns-in-Ok-finish-clause-index g c =
 pub returns-in-Ok-finish-clause-reported : goal.returns-in-Ok-finish-clause-reported
 returns-in-Ok-finish-clause-reported g c = same_reported _ _ _ c.in-Ok.ensures.reported.unfailed
 
-pub returns-clause-reported : goal.returns-clause-reported
-returns-clause-reported g c = fault_reported _ _ _ c.in-Err.fault refl c.in-Err.ensures.reported
+pub returns-in-Err-clause-reported : goal.returns-in-Err-clause-reported
+returns-in-Err-clause-reported g c = fault_reported _ _ _ c.in-Err.fault refl c.in-Err.ensures.reported
