@@ -179,9 +179,9 @@ module _ (budget : ℕ) (left₀ : Option (List ℕ)) (before now : ℕ) (p : Re
   unfolding cut_picture
   room_cut f =
       let es = d.under_way.events in
-      let ending = ending p.layout v (tracked_since (extended [] es)) (length es) cut_words None in
-      let more : Pending reported₀ reported kept (cut_picture p.layout v es) ending = (d.flows.0, d.flows.1, ap (λ x. x ++ ending) (d.flows.2 ∙ append-nil (d.flows.0 ++ kept))) in
-      let prefix : AppendsPrefix reported₀ reported' (cut_picture p.layout v es) = pending_fault reported₀ reported reported' kept (cut_picture p.layout v es) ending more f in
+      let tail = ending p.layout v (tracked_since (extended [] es)) (length es) cut_words None in
+      let more : Pending reported₀ reported kept (cut_picture p.layout v es) tail = (d.flows.0, d.flows.1, ap (λ x. x ++ tail) (d.flows.2 ∙ append-nil (d.flows.0 ++ kept))) in
+      let prefix : AppendsPrefix reported₀ reported' (cut_picture p.layout v es) = pending_fault reported₀ reported reported' kept (cut_picture p.layout v es) tail more f in
       if_some left₀ _ (cut_by budget left₀ before now p m count v reported₀ reported kept k d end reported' (cut_picture p.layout v es) (inr (inl refl)) prefix)
 
   pub refused_got : (f : TextFault) → end ≡ kept ++ ending l v k count cut_words None → Appends reported reported' end → IsDrawn budget v left₀ reported₀ reported' (refusal f)

@@ -62,7 +62,6 @@ pub fn add_last_closing(
 }
 
 // Adds the height, by how much the words at the top move the rest down, what shows the overview, and the last tag.
-#[tactic(auto, unfolding(crate::specs::Picture::last_tags))]
 fn add_last_tags(
     buf: &mut [u8],
     at: usize,
