@@ -24,8 +24,11 @@ module _ (l : Layout) (v : DrawnRange) (k : Tracked) (n high : ℕ) (words : Lis
   lines_there = record {
     before = [];
     after = codes "</g></g>\n" ++ words ++ last_tags l v n high;
-    text = refl;
+    text = in_front (holds_text l.mutexes k n low) (codes "</g></g>\n") words (last_tags l v n high);
   }
+    where
+      in_front : (a b c d : List ℕ) → a ++ b ++ c ++ d ≡ [] ++ a ++ (b ++ c ++ d)
+      in_front a b c d = simp append_assoc
 
   abbrev name : List ℕ
   name = with_number (codes "'><title>m") m ++ codes "</title>"
