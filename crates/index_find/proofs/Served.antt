@@ -15,7 +15,7 @@ use Rattle.index_find.specs.declared.query.Step.{Step}
 use Rattle.index_find.specs.declared.query.Step.TheVariants as step
 
 passes : (f : Step → Bool) (steps : List Step) (s : Step) → Contains steps s → f s ≡ true → list_any f steps ≡ true
-passes f steps s has yes = list_any_at f steps has.0 s has.1 (ap f has.2 ∙ yes)
+passes f steps s has sure = list_any_at f steps has.0 s has.1 (ap f has.2 ∙ sure)
 
 abbrev AreAmong : List Step → List Step → Type 0
 AreAmong some steps = (s : Step) → Contains some s → Contains steps s

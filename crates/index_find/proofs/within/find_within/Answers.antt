@@ -8,7 +8,7 @@ use Rattle.index_find.proofs.within.find_within.Goals as goal
 pub answer-requires : goal.answer-requires
 answer-requires g c =
     let h = c.in-Ok.ensures.told in
-    (c.new.result, h.told, h.kept, h.ended, h.ordered)
+    (c.new-sieve.result, h.told, h.kept, h.ended, h.ordered)
 
 pub returns-in-Ok-answer-clause-found : goal.returns-in-Ok-answer-clause-found
 returns-in-Ok-answer-clause-found g c =
@@ -17,7 +17,7 @@ returns-in-Ok-answer-clause-found g c =
       rows = h.told.rows;
       skipped = h.told.skipped;
       read = h.text;
-      meant = subst (λ (q : List Step). AreMeant h.told.rows (tree_of q) c.in-Ok-answer.paths.items) c.new.ensures (c.in-Ok-answer.ensures c.new.result h.told h.kept);
+      meant = subst (λ (q : List Step). AreMeant h.told.rows (tree_of q) c.in-Ok-answer.paths.items) c.new-sieve.ensures (c.in-Ok-answer.ensures c.new-sieve.result h.told h.kept);
     }
 
 pub returns-in-Ok-answer-clause-reported : goal.returns-in-Ok-answer-clause-reported

@@ -13,7 +13,7 @@ returns c = λ first t k.
       every_path = k.every_path;
       wanted = k.wanted;
       word = k.word;
-      last_word = c.in_ok-set.ensures ∙ ap Some k.word ∙ sym (last_word_is t);
+      last_word = c.in_ok-set.ensures ∙ ap Some (c.deref.ensures.value ∙ k.word) ∙ sym (last_word_is t);
       last_path = c.clear.ensures;
       last_skipped = k.last_skipped;
     })
