@@ -4,4 +4,4 @@ use Rattle.index_find.specs.Asked.{is_word_step}
 use Rattle.index_find.proofs.query.Query.asks_for.Given as goal
 
 abbrev pub invariant-loop-step : goal.invariant-loop-step
-invariant-loop-step l = list_any (is_word_step l.word) (drop l.step-index l.self-inside.steps.items) ≡ list_any (is_word_step l.word) l.self-inside.steps.items
+invariant-loop-step l = list_any (is_word_step l.word) (drop l.step-index l.step-items) ≡ list_any (is_word_step l.word) l.step-items
