@@ -9,7 +9,7 @@ returns c = λ first t k.
     (λ h. record {
       query = k.query;
       whole = k.whole;
-      keeps = keeps_row k.keeps now.wanted now.word.items c.keep_row.new.draft k.wanted k.word h;
+      keeps = keeps_row k.keeps now.wanted c.deref-2.result.now c.keep_row.new.draft k.wanted (c.deref-2.ensures.value ∙ k.word) h;
       every_path = k.every_path;
       wanted = k.wanted;
       word = k.word;
