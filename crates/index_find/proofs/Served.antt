@@ -1,15 +1,14 @@
 -- A query means the same in what is kept for it.
-use Rattle.std.proofs.Common.{◌≡◌, ◌⊎◌, ◌↔◌, ℕ, true, List, [], ◌∷◌, ◌++◌, refl, sym, subst, ⊎_elim, inl, inr}
+use Rattle.std.proofs.Common.{◌≡◌, ◌↔◌, ℕ, Bool, true, List, [], ◌∷◌, ◌++◌, refl, sym, ap, ◌∙◌, subst, ⊎_elim, inl, inr}
 use Rattle.std.specs.List.{Contains, list_any}
 use Rattle.std.specs.Cmp.Lexicographic.{bytes_decides}
 use Rattle.std.proofs.lemmas.List.Elements.{Contains-append_left, Contains-append_right, Contains-push}
 use Rattle.std.proofs.lemmas.List.Folds.{list_any_at}
-use Rattle.std.proofs.Common.{ap, ◌∙◌, Bool}
 use Rattle.word_index.specs.Index.{Row}
 use Rattle.index_find.specs.Tree.{Tree, Word, Not, Both, Either}
 use Rattle.index_find.specs.Meaning.{Means, AreMeant}
 use Rattle.index_find.specs.Postfix.{postfix}
-use Rattle.index_find.specs.Asked.{is_word_step, is_not_step, asks_for, negates}
+use Rattle.index_find.specs.Asked.{is_word_step, is_not_step}
 use Rattle.index_find.specs.Sieved.{Serves}
 use Rattle.index_find.specs.declared.query.Step.{Step}
 use Rattle.index_find.specs.declared.query.Step.TheVariants as step

@@ -1,6 +1,6 @@
 -- What a sieve keeps as it is told more.
-use Rattle.std.proofs.Common.{◌≡◌, ◌⊎◌, ℕ, ◌<◌, ◌-◌, Bool, true, false, List, [], ◌∷◌, ◌++◌, length, get_or, slice_get, map, Option, Some, None, Result, Ok, Err, OnOk, IfOk, arith, refl, sym, ap, subst, ◌∙◌, ⊎_elim, inl, inr, All}
-use Rattle.std.specs.List.{Contains, AllPairs}
+use Rattle.std.proofs.Common.{◌≡◌, ◌⊎◌, ℕ, ◌<◌, ◌-◌, Bool, true, false, List, [], ◌∷◌, ◌++◌, length, get_or, slice_get, Some, None, Result, Ok, Err, OnOk, IfOk, arith, refl, sym, ap, subst, ◌∙◌, ⊎_elim, inl, inr}
+use Rattle.std.specs.List.{Contains}
 use Rattle.std.proofs.lemmas.Bool.{false≢true}
 use Rattle.std.proofs.lemmas.Option.{slice_get-get_or}
 use Rattle.std.proofs.lemmas.List.{length-map, get_or_append_left, get_or_push, length_push, map-append}
@@ -8,7 +8,7 @@ use Rattle.std.proofs.lemmas.List.Elements.{All-push, Contains-get_or, Contains-
 use Rattle.std.proofs.lemmas.List.Quantifiers.{all_pairs_push}
 use Rattle.word_index.specs.Index.{Hit, Row, IsBelow, IsRising}
 use Rattle.word_index.proofs.Images.{to_map, from_map}
-use Rattle.index_table.specs.Rows.{Drafted, AreOrdered, HasFile, HasPath, IsAmong, paths_of, words_of}
+use Rattle.index_table.specs.Rows.{Drafted, AreOrdered, HasPath, IsAmong, paths_of, words_of}
 use Rattle.index_text.specs.Told.{Told, nothing, with_word, with_hit, with_end, with_skipped, last_word, last_path, last_skipped}
 use Rattle.index_find.specs.Asked.{asks_for, negates}
 use Rattle.index_find.specs.Kept.{KeepsHit, KeepsRow}

@@ -1,4 +1,4 @@
-use Rattle.std.proofs.Common.{List, ℕ, ap, sym, refl, subst}
+use Rattle.std.proofs.Common.{List, refl, subst}
 use Rattle.exact_text.proofs.Reported.{same_reported, fault_reported}
 use Rattle.index_find.specs.Postfix.{tree_of}
 use Rattle.index_find.specs.Meaning.{AreMeant}

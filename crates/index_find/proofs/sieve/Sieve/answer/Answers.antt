@@ -1,4 +1,4 @@
-use Rattle.std.proofs.Common.{List, ℕ, ap, sym, subst}
+use Rattle.std.proofs.Common.{List, subst}
 use Rattle.word_index.specs.Index.{Row}
 use Rattle.index_find.specs.Postfix.{tree_of}
 use Rattle.index_find.specs.Meaning.{AreMeant}
