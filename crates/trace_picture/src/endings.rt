@@ -83,7 +83,7 @@ fn add_last_tags(
         + height_of_overview(layout, view, count)
         + high;
     let at = add_with_number(buf, at, b"<style>:root{height:", whole);
-    let at = add_with_number(buf, at, b"px}.v{transform:translate(0,", high);
+    let at = add_with_number(buf, at, b"px}.s{transform:translate(0,", high);
     add_over_style(buf, at, layout, view, count)
 }
 

@@ -64,7 +64,7 @@ fn add_pattern(buf: &mut [u8], at: usize) -> usize
     add(
         buf,
         at,
-        b"<rect class='p' width='100%' height='100%'/>\n<g class='v'>\n",
+        b"<rect class='p' width='100%' height='100%'/>\n<g class='s'>\n",
     )
 }
 

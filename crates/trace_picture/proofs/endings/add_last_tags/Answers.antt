@@ -12,4 +12,4 @@ returns-clause-text c =
     let holds = c.height_of_holds.ensures.height in
     let over = c.height_of_overview.ensures.height in
     added_three old _ _ _ _ _ _ [] [] c.add_with_number-at.ensures.text c.add_with_number-at-2.ensures.text c.add_over_style.ensures.text
-    ∙ (λ i. old ++ (with_number (codes "<style>:root{height:") (low i + 14 + holds i + over i + c.args.high) ++ with_number (codes "px}.v{transform:translate(0,") c.args.high ++ over_style c.args.layout.now c.args.view.now c.args.count))
+    ∙ (λ i. old ++ (with_number (codes "<style>:root{height:") (low i + 14 + holds i + over i + c.args.high) ++ with_number (codes "px}.s{transform:translate(0,") c.args.high ++ over_style c.args.layout.now c.args.view.now c.args.count))
