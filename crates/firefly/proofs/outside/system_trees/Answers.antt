@@ -1,7 +1,7 @@
 use Rattle.std.proofs.Common.{◌+◌, length, refl, ap, ◌∙◌, None}
 use Rattle.std.proofs.lemmas.List.{length_push}
 use Rattle.firefly.specs.Looks.{unseen}
-use Rattle.firefly.proofs.TreeLooks.{tells-more, fresh-more}
+use Rattle.firefly.proofs.TreeLooks.{shows-more, fresh-more}
 use Rattle.firefly.proofs.outside.system_trees.Goals as goal
 
 pub loop-made-init : goal.loop-made-init
@@ -14,7 +14,7 @@ loop-made-preserved g c =
     let items = c.in-Ok-push.ensures.items in
     record {
       many = ap length items ∙ length_push trees _ ∙ ap (λ n. n + 1) was.many;
-      reported = rw items (tells-more (λ t. unseen t.faults) None c.new.result refl trees was.reported);
+      reported = rw items (shows-more (λ t. unseen t.faults) None c.new.result refl trees was.reported);
       fresh = rw items (fresh-more (λ t. unseen t.faults) c.new.result c.new.ensures trees was.fresh);
     }
 
