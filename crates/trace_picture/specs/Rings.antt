@@ -49,7 +49,7 @@ no_cycle_words = codes "<text class='hd' x='44' y='18'><tspan class='ok'>legal</
 -- a step of a cycle: which mutex was got while which was held, by whom and by which event, with a link to its ring
 unfoldable pub nesting_text : Edge → List ℕ
 nesting_text n =
-    with_number (codes "; <a href='#e") n.place ++ with_number (codes "'>m") n.outer.0 ++ with_number (codes " then m") n.inner.0
+    with_number (codes ", <a href='#e") n.place ++ with_number (codes "'>m") n.outer.0 ++ with_number (codes " then m") n.inner.0
     ++ with_number (codes " by t") n.thread.0 ++ with_number (codes " at event ") n.place ++ codes "</a>"
 
 -- a cycle in words

@@ -17,7 +17,7 @@ fn add_nesting(buf: &mut [u8], at: usize, edge: &Edge) -> usize
     ensures text { take result buf.new ≡ take at buf.old ++ nesting_text edge.now }
     ensures near { result ≤ at + 160 }
 {
-    let at = add_with_number(buf, at, b"; <a href='#e", edge.place);
+    let at = add_with_number(buf, at, b", <a href='#e", edge.place);
     let at = add_with_number(buf, at, b"'>m", u64::from(edge.outer.0));
     let at = add_with_number(buf, at, b" then m", u64::from(edge.inner.0));
     let at = add_with_number(buf, at, b" by t", u64::from(edge.thread.0));
