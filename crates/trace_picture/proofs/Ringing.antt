@@ -99,9 +99,9 @@ added_ring l v n x y m k old a b c d e f ex ey em ek one two three four five six
 
 -- the pieces of a step of a cycle
 pub added_nesting : (n : Edge) (m k t : ℕ) (old a b c d e f : List ℕ) → m ≡ n.outer.0 → k ≡ n.inner.0 → t ≡ n.thread.0
-    → a ≡ old ++ with_number (codes "; <a href='#e") n.place → b ≡ a ++ with_number (codes "'>m") m → c ≡ b ++ with_number (codes " then m") k
+    → a ≡ old ++ with_number (codes ", <a href='#e") n.place → b ≡ a ++ with_number (codes "'>m") m → c ≡ b ++ with_number (codes " then m") k
     → d ≡ c ++ with_number (codes " by t") t → e ≡ d ++ with_number (codes " at event ") n.place → f ≡ e ++ codes "</a>" → f ≡ old ++ nesting_text n
 unfolding nesting_text
 added_nesting n m k t old a b c d e f em ek et one two three four five six =
     added_six old a b c _ _ _ _ _ one two three d e f _ four five six
-    ∙ (λ i. old ++ (with_number (codes "; <a href='#e") n.place ++ with_number (codes "'>m") (em i) ++ with_number (codes " then m") (ek i) ++ with_number (codes " by t") (et i) ++ with_number (codes " at event ") n.place ++ codes "</a>"))
+    ∙ (λ i. old ++ (with_number (codes ", <a href='#e") n.place ++ with_number (codes "'>m") (em i) ++ with_number (codes " then m") (ek i) ++ with_number (codes " by t") (et i) ++ with_number (codes " at event ") n.place ++ codes "</a>"))
