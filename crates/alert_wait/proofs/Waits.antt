@@ -21,7 +21,7 @@ module _ {T H W : Type 0} where
     pub failed : List ℕ
     pub put : a ≡ record o { values = slice_set o.values m (Some (Some y)) }
     pub begun : b ≡ recorded a b (λ q. record q { wait = wait; raised = raised })
-    pub freed : f ≡ record b { part = record b.part { held = f.held; share = f.share; count = f.count; wait = opened b.wait; failed = f.failed; cleared = without m b.cleared; looked = without m b.looked }; values = f.values }
+    pub freed : f ≡ record b { part = record b.part { held = f.held; share = f.share; stints = f.stints; count = f.count; wait = opened b.wait; failed = f.failed; cleared = without m b.cleared; looked = without m b.looked }; values = f.values }
     pub freed_held : f.held ≡ slice_set b.held m None
     pub freed_values : f.values ≡ slice_set b.values m None
     pub blocked : k ≡ record f { part = record f.part { count = k.count; failed = failed; wait = k.wait; alerted = k.alerted } }

@@ -193,6 +193,10 @@ fn found_or<F: FnOnce() -> u64 + Drop>(found: Option<u64>, f: F) -> u64
 ///
 /// Blocks while another thread has the mutex of the cell, and while f runs all others wait for it. That f isn't called on a full cell is
 /// said by no clause.
+///
+/// ```rust
+/// let _ = agree(rt, p, me, &at, || own);
+/// ```
 pub fn agree<F: FnOnce() -> u64 + Drop, R: Wait>(
     rt: &R,
     p: &Package<RoundUses>,

@@ -102,6 +102,10 @@ impl<T> Ring<T> {
     }
 
     /// Returns the items, in order of puts.
+    ///
+    /// ```rust
+    /// let items = ring.into_items();
+    /// ```
     pub fn into_items(self) -> VecDeque<T>
         ensures { result.items ≡ self.items }
     {

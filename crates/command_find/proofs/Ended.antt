@@ -11,9 +11,10 @@ use Rattle.exact_text.specs.declared.fault.TextFault.{TextFault}
 use Rattle.exact_text.specs.declared.fault.TextFault.TheVariants as fault
 use Rattle.command_endings.specs.Printing.{Prints}
 use Rattle.index_find.specs.Meaning.{AreMeant}
+use Rattle.index_find.specs.Sieved.{AreFound}
 use Rattle.command_find.specs.Asking.{Asks}
 use Rattle.command_find.specs.Lines.{lines_of}
-use Rattle.command_find.specs.Find.{Fails, IsTextOf, IsFound, PrintsFound, EndsBy, FindAnswers}
+use Rattle.command_find.specs.Find.{Fails, IsTextOf, IsFound, EndsBy, FindAnswers}
 
 pub ended : (most : ℕ) (tree : Tree) (input out notes : Change) (status s : Status) → status ≡ s → EndsBy most tree input out notes s → EndsBy most tree input out notes status
 ended most tree input out notes status s e h = subst (λ (x : Status). EndsBy most tree input out notes x) (sym e) h
@@ -26,10 +27,9 @@ printed : (most : ℕ) (tree : Tree) (rows : List Row) (paths : List (List ℕ))
 printed most tree rows paths input out notes status read meant (inl h) = ended most tree input out notes status Done h.0 (lines_of paths, there most tree rows paths input read meant, h.1, h.2)
 printed most tree rows paths input out notes status read meant (inr h) = ended most tree input out notes status SinkFault h.0 (lines_of paths, there most tree rows paths input read meant, h.1, h.2)
 
--- the index was read
-pub found : (most : ℕ) (tree : Tree) (rows : List Row) (input out notes : Change) (status : Status) → IsTextOf most input rows → PrintsFound tree rows out notes status → EndsBy most tree input out notes status
-found most tree rows input out notes status read (inl h) = printed most tree rows h.0 input out notes status read h.1 h.2
-found most tree rows input out notes status read (inr h) = ended most tree input out notes status Memory h.0 (h.1, h.2)
+-- the paths were found
+pub found : (most : ℕ) (tree : Tree) (paths : List (List ℕ)) (input out notes : Change) (status : Status) → AreFound most input.old tree paths → Prints (lines_of paths) Done out notes status → EndsBy most tree input out notes status
+found most tree paths input out notes status f h = printed most tree f.rows paths input out notes status (f.skipped, f.read) f.meant h
 
 -- the index wasn't read
 pub refused : (most : ℕ) (tree : Tree) (input out notes : Change) (status : Status) (f : TextFault) → Fails most input f → IsStill out → SaysFault f notes status → EndsBy most tree input out notes status

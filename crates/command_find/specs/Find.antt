@@ -13,7 +13,6 @@ use Rattle.command_endings.specs.declared.status.Status.{Status}
 use Rattle.command_endings.specs.declared.status.Status.TheVariants.{Done, Usage, ReadFault, SinkFault, Stopped, Memory, Illegal, BadText, TooMany, TooLong}
 use Rattle.command_endings.specs.Changes.{Change, IsStill, Gets, GetsPrefix, Notes}
 use Rattle.command_endings.specs.Messages.{usage_message, input_fault_message, output_fault_message, memory_message, bad_line_message, too_long_message}
-use Rattle.command_endings.specs.Printing.{Prints}
 use Rattle.command_find.specs.Asking.{Asks}
 use Rattle.command_find.specs.Lines.{lines_of}
 
@@ -28,12 +27,6 @@ pub record IsFound (most : ℕ) (tree : Tree) (input : Change) (text : List ℕ)
   pub read : IsTextOf most input rows
   pub meant : AreMeant rows tree paths
   pub lines : text ≡ lines_of paths
-
--- the paths that the tree means in these rows were printed, or memory wants
-abbrev pub PrintsFound : Tree → List Row → Change → Change → Status → Type 0
-PrintsFound tree rows out notes status =
-    ((paths : List (List ℕ)) × AreMeant rows tree paths × Prints (lines_of paths) Done out notes status)
-    ⊎ ((status ≡ Memory) × IsStill out × Notes notes memory_message)
 
 -- why the input can't be read
 abbrev pub Fails : ℕ → Change → TextFault → Type 0

@@ -5,49 +5,31 @@ ghost use Rattle.command_endings.specs.Changes.{change_of};
 ghost use Rattle.index_find.specs.Postfix.{tree_of};
 ghost use Rattle.index_text.specs.Faults.{most_bytes};
 ghost use Rattle.command_endings.specs.Endings.{ReportsFault};
-ghost use Rattle.command_find.specs.Find.{PrintsFound, EndsBy, FindAnswers, Decided};
+ghost use Rattle.command_find.specs.Find.{EndsBy, FindAnswers, Decided};
 
 use crate::lines::print_paths;
 use crate::words::read_limit;
 use command_endings::{Ending, Status, ends, ends_unread};
 use firefly_outside::{Sink, Source};
-use index_find::{Index, Query, QueryFault, find, read_query};
-use index_text::read_index_within;
+use index_find::{Query, QueryFault, find_within, read_query};
 use std::alloc::Global;
-
-// Prints the paths that the query means in the index.
-fn print_found<O: Sink, N: Sink>(
-    alloc: Global,
-    query: &Query,
-    index: &Index,
-    out: &mut O,
-    notes: &mut N,
-) -> Status
-    ensures { PrintsFound (tree_of query.now) index.now.rows (change_of O.held O.faults out.old out.new)
-        (change_of N.held N.faults notes.old notes.new) result }
-{
-    match find(alloc, index, query) {
-        Ok(paths) => print_paths(paths.as_slice(), out, notes),
-        Err(_) => ends(notes, Ending::Memory),
-    }
-}
 
 // Answers the query on the index that the input gives, which has at most so many bytes.
 fn answer<I: Source, O: Sink, N: Sink>(
     alloc: Global,
-    query: &Query,
+    query: Query,
     most: u64,
     input: &mut I,
     out: &mut O,
     notes: &mut N,
 ) -> Status
     requires { most ≤ most_bytes }
-    ensures ends { EndsBy most (tree_of query.now) (change_of I.left I.faults input.old input.new) (change_of O.held O.faults out.old out.new)
+    ensures ends { EndsBy most (tree_of query) (change_of I.left I.faults input.old input.new) (change_of O.held O.faults out.old out.new)
         (change_of N.held N.faults notes.old notes.new) result }
     ensures reported { ReportsFault (change_of I.left I.faults input.old input.new) result }
 {
-    match read_index_within(alloc, input, most) {
-        Ok(index) => print_found(alloc, query, &index, out, notes),
+    match find_within(alloc, query, input, most) {
+        Ok(paths) => print_paths(paths.as_slice(), out, notes),
         Err(fault) => ends_unread(notes, fault),
     }
 }
@@ -70,7 +52,7 @@ pub fn run_find<I: Source, O: Sink, N: Sink>(
         return ends(notes, Ending::Usage);
     };
     match read_query(alloc, tokens) {
-        Ok(query) => answer(alloc, &query, most, input, out, notes),
+        Ok(query) => answer(alloc, query, most, input, out, notes),
         Err(QueryFault::NotAQuery) => ends(notes, Ending::Usage),
         Err(QueryFault::Memory) => ends(notes, Ending::Memory),
     }

@@ -17,6 +17,7 @@ pub use Rattle.nub_rule.specs.Ends
 pub use Rattle.nub_rule.specs.Items
 pub use Rattle.nub_rule.specs.Known
 pub use Rattle.nub_rule.specs.Plays
+pub use Rattle.nub_rule.specs.Stints
 pub use Rattle.package_crew.specs.Crews
 pub use Rattle.package_crew.specs.Runs
 pub use Rattle.package_crew.specs.Times

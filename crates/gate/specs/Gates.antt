@@ -5,7 +5,7 @@ use Rattle.nub_rule.specs.declared.object.Object.{Object}
 use Rattle.nub_rule.specs.declared.object.Object.TheVariants.{Mutex, Sem, Cond}
 use Rattle.nub_rule.specs.declared.view.Wait.{Wait}
 use Rattle.nub_rule.specs.declared.view.WaitBit.TheVariants.{Closing}
-use Rattle.nub_rule.specs.Known.{Known, Holds, IsIn, MayGive, PicksShare}
+use Rattle.nub_rule.specs.Known.{EntersStint, Known, Holds, IsIn, MayGive, PicksShare}
 use Rattle.nub_rule.specs.Plays.{MayTake, MayTakeSem, release_event, v_event}
 
 -- the thread of this number, in this wait, may make the event e by taking the bit
@@ -46,8 +46,9 @@ module _ {T H W : Type 0} where
   MayFree allows after (Sem s) k = Unit {0}
   MayFree allows after (Cond c) k = ⊥
 
-  -- a thread that clears the bit of a mutex hands its value over, and has the chosen share
+  -- a thread that clears the bit of a mutex hands its value over, has the chosen share, and has entered the stint that ends
   abbrev pub IsFreed : (W → ℕ → ℕ → T → T → H → H) → Object → Known T H W → Known T H W → Type 0
   IsFreed after (Mutex m) a b = (b.held ≡ slice_set a.held m.0 None) × (b.values ≡ slice_set a.values m.0 None) × PicksShare after m.0 a b
-  IsFreed after (Sem s) a b = (b.held ≡ a.held) × (b.values ≡ a.values) × (b.share ≡ a.share)
+      × EntersStint after m.0 a b
+  IsFreed after (Sem s) a b = (b.held ≡ a.held) × (b.values ≡ a.values) × (b.share ≡ a.share) × (b.stints ≡ a.stints)
   IsFreed after (Cond c) a b = ⊥

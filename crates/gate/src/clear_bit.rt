@@ -4,7 +4,7 @@ ghost use Rattle.larch_actions.specs.Sets.{mem, without};
 ghost use Rattle.gate.specs.Gates.{MayClear, MayFree, IsFreed, clears};
 ghost use Rattle.nub_rule.specs.declared.view.Wait.{Wait as Waiting};
 ghost use Rattle.nub_rule.specs.declared.view.WaitBit.TheVariants.{Closing};
-ghost use Rattle.nub_rule.specs.Known.{Makes, MayGive, PicksShare, learnt, recorded};
+ghost use Rattle.nub_rule.specs.Known.{EntersStint, Makes, MayGive, PicksShare, learnt, recorded};
 ghost use Rattle.nub_rule.specs.Objects.{object_of, HasObject, IsGate};
 ghost use Rattle.nub_rule.specs.Parts.{MayRecord, made};
 ghost use Rattle.nub_rule.specs.Plays.{opened};
@@ -45,6 +45,7 @@ pub fn free<U: Uses, C: Change<U>, R: Wait>(
       part = record me.old.part {
         held = me.new.held;
         share = me.new.share;
+        stints = me.new.stints;
         count = me.new.count;
         wait = opened me.old.wait;
         failed = me.new.failed;
@@ -55,6 +56,7 @@ pub fn free<U: Uses, C: Change<U>, R: Wait>(
     }) (λ x. me.new ≡ record (recorded me.old me.new (λ q. record q {
       held = me.new.held;
       share = me.new.share;
+      stints = me.new.stints;
       count = me.new.count;
       failed = me.new.failed;
       cleared = without (object_of at) me.old.cleared;
@@ -114,6 +116,7 @@ fn free_in_wait<U: Uses, C: Change<U>, R: Wait>(
       part = record me.old.part {
         held = slice_set me.old.held m.0 None;
         share = me.new.share;
+        stints = me.new.stints;
         count = me.new.count;
         wait = opened me.old.wait;
         failed = me.new.failed;
@@ -123,6 +126,7 @@ fn free_in_wait<U: Uses, C: Change<U>, R: Wait>(
       values = slice_set me.old.values m.0 None;
     } }
     ensures share { PicksShare C.after m.0 me.old me.new }
+    ensures stint { EntersStint C.after m.0 me.old me.new }
 {
     clear_bit_in_wait::<U, C>(p, me, m);
     let length = read_length(p, me, Object::Mutex(m));
@@ -150,7 +154,7 @@ fn clear_traced<U: Uses, C: Change<U>, R: Wait>(
     requires stored { HasStored p.now.traced me.old }
     ensures event { Makes (clears at me.old.number) me.old me.new }
     ensures rest { me.new ≡ record (recorded me.old me.new (λ q. record q
-        { held = me.new.held; share = me.new.share; cleared = object_of at ∷ me.old.cleared })) { values = me.new.values } }
+        { held = me.new.held; share = me.new.share; stints = me.new.stints; cleared = object_of at ∷ me.old.cleared })) { values = me.new.values } }
     ensures freed { IsFreed C.after at me.old me.new }
     ensures stored { HasStored p.now.traced me.new }
 {
@@ -192,6 +196,7 @@ fn clear_gate<U: Uses, C: Change<U>>(p: &Package<U>, me: &mut Thread<U>, at: Obj
       part = record (learnt me.old.part me.new.part) {
         held = me.new.held;
         share = me.new.share;
+        stints = me.new.stints;
         cleared = object_of at ∷ me.old.cleared;
         pen = made me.old.pen;
       };

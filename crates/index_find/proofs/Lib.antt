@@ -7,3 +7,5 @@ pub mod Postfixes
 pub mod Driven
 pub mod Sound
 pub mod Answered
+pub mod Sieving
+pub mod Served

@@ -6,3 +6,7 @@ pub mod Postfix
 pub mod Kinds
 pub mod Taking
 pub mod Answers
+pub mod Asked
+pub mod Kept
+pub mod Sieved
+pub mod Sieve

@@ -1,5 +1,6 @@
 //! A query.
 ghost use Rattle.std.specs.Prelude.{◌≡◌};
+ghost use Rattle.index_find.specs.Asked.{is_word_step, is_not_step};
 
 use firefly_outside::Text;
 use std::marker::Model;
@@ -35,8 +36,29 @@ impl Model for Query {
     ghost invariant = { λ q. q.steps.items ≡ postfix (tree_of q.steps.items) };
 }
 
+// Whether the step gives the files of this word.
+fn names(step: &Step, word: &[u8]) -> bool
+    ensures { result ≡ is_word_step word.now step.now }
+{
+    match step {
+        Step::Word(text) => text.as_str().as_bytes() == word,
+        _ => false,
+    }
+}
+
+// Whether the step gives what the last one didn't.
+fn turns(step: &Step) -> bool
+    ensures { result ≡ is_not_step step.now }
+{
+    match step {
+        Step::Not => true,
+        _ => false,
+    }
+}
+
 impl Query {
     ghost use Rattle.index_find.specs.Postfix.{postfix, tree_of};
+    ghost use Rattle.index_find.specs.Asked.{asks_for, negates};
 
     // The query that these steps are.
     pub(crate) fn of(steps: Vec<Step>) -> Query
@@ -52,5 +74,30 @@ impl Query {
         ensures whole { self.now ≡ postfix (tree_of self.now) }
     {
         self.steps.as_slice()
+    }
+
+    /// Whether it asks for the files of this word.
+    pub fn asks_for(&self, word: &[u8]) -> bool
+        ensures { result ≡ asks_for word.now self.now }
+    {
+        for step in &self.steps {
+            if names(step, word) {
+                return true;
+            }
+        }
+        false
+    }
+
+    /// Whether it has a `!`.
+    pub fn negates(&self) -> bool
+        ensures negates { result ≡ negates self.now }
+        ensures whole { self.now ≡ postfix (tree_of self.now) }
+    {
+        for step in &self.steps {
+            if turns(step) {
+                return true;
+            }
+        }
+        false
     }
 }

@@ -32,7 +32,7 @@ pub record IsFirst (root : Path) (dirs : DirsInWork) : Type 0 where
 pub record IsOpening (root : Path) (values : List IndexValue) : Type 0 where
   pub dirs : DirsInWork
   pub first : IsFirst root dirs
-  pub is : values ≡ Dirs dirs ∷ Ring (fresh 256) ∷ Ring (fresh 8) ∷ []
+  pub is : values ≡ Dirs dirs ∷ Ring (fresh 4096) ∷ Ring (fresh 8) ∷ []
 
 -- the shares of threads that have done nothing
 abbrev pub blanks : List ℕ → List Share
@@ -105,22 +105,22 @@ opens root values ns is = subst (λ vs. KeepsWork root vs (blanks ns)) (sym is.i
 })
   where
     list : List IndexValue
-    list = Dirs is.dirs ∷ Ring (fresh 256) ∷ Ring (fresh 8) ∷ []
+    list = Dirs is.dirs ∷ Ring (fresh 4096) ∷ Ring (fresh 8) ∷ []
 
     waits : is.dirs.list.waiting.items ++ all_took (blanks ns) ≡ root ∷ []
     waits = ap (λ l. is.dirs.list.waiting.items ++ l) (none_of (λ s. s.took) ns refl) ∙ ap (λ l. l ++ []) is.first.waits
 
     kinds : (m : ℕ) (v : IndexValue) → get_elem? list m ≡ some v → IsAfter m v
     kinds zero v e = subst (λ (u : IndexValue). IsAfter 0 u) (some-injective (Dirs is.dirs) v e) refl
-    kinds (suc zero) v e = subst (λ (u : IndexValue). IsAfter 1 u) (some-injective (Ring (fresh 256)) v e) (λ z. omega arith)
+    kinds (suc zero) v e = subst (λ (u : IndexValue). IsAfter 1 u) (some-injective (Ring (fresh 4096)) v e) (λ z. omega arith)
     kinds (suc (suc zero)) v e = subst (λ (u : IndexValue). IsAfter 2 u) (some-injective (Ring (fresh 8)) v e) (λ z. omega arith)
     kinds (suc (suc (suc m))) v e = absurd (some-ne-none v (sym e))
 
     rings : (m : ℕ) (q : Held IndexItem) → get_elem? (map ring_of list) m ≡ some q → BufferRule m q (notes_of (blanks ns))
     rings zero q e = subst (λ (r : Held IndexItem). BufferRule 0 r (notes_of (blanks ns))) (some-injective (fresh 1) q e)
         (blank_rule 0 1 ns)
-    rings (suc zero) q e = subst (λ (r : Held IndexItem). BufferRule 1 r (notes_of (blanks ns))) (some-injective (fresh 256) q e)
-        (blank_rule 1 256 ns)
+    rings (suc zero) q e = subst (λ (r : Held IndexItem). BufferRule 1 r (notes_of (blanks ns))) (some-injective (fresh 4096) q e)
+        (blank_rule 1 4096 ns)
     rings (suc (suc zero)) q e = subst (λ (r : Held IndexItem). BufferRule 2 r (notes_of (blanks ns))) (some-injective (fresh 8) q e)
         (blank_rule 2 8 ns)
     rings (suc (suc (suc m))) q e = absurd (some-ne-none q (sym e))

@@ -44,7 +44,7 @@ module _ {A : Type 0} where
       let apart = apart_from_distinct string_eq ks i j k distinct before there in
       rw (get_or-map string_bytes ks i k d here, get_or-map string_bytes ks j k d there) (below_apart (string_bytes (get_or ks i k)) (string_bytes (get_or ks j k)) later apart)
 
-  texts_keys : (es : List (String A × ℕ)) → map string_bytes (keys_of es) ≡ texts es
+  pub texts_keys : (es : List (String A × ℕ)) → map string_bytes (keys_of es) ≡ texts es
   texts_keys [] = refl
   texts_keys (e ∷ es) = ap (λ l. string_bytes e.0 ∷ l) (texts_keys es)
 

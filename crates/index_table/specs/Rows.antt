@@ -1,5 +1,5 @@
 -- Rows of words with their files, in columns and as an index.
-use Rattle.std.specs.Prelude.{◌≡◌, ◌↔◌, ℕ, ◌<◌, ◌≤◌, List, [], ◌∷◌, length, map, take, slice_index_or}
+use Rattle.std.specs.Prelude.{◌≡◌, ◌↔◌, ◌⊎◌, ℕ, ◌<◌, ◌≤◌, List, [], ◌∷◌, length, map, take, slice_index_or}
 use Rattle.std.specs.List.{All, AllPairs, Contains}
 use Rattle.word_index.specs.Blocks.{parts, AreEnds}
 use Rattle.word_index.specs.Index.{Hit, Row, IsRising}
@@ -30,6 +30,10 @@ HasFile rows word path = (row : Row) × Contains rows row × (row.word ≡ word)
 -- some row has a file of this path
 abbrev pub HasPath : List Row → List ℕ → Type 0
 HasPath rows path = (row : Row) × Contains rows row × Contains (paths_of row.hits) path
+
+-- a row, or the row under way, has a file of this path
+abbrev pub IsAmong : Drafted → List ℕ → Type 0
+IsAmong d path = HasPath d.rows path ⊎ Contains (paths_of d.hits) path
 
 -- words rise, and in each row the paths
 pub record AreOrdered (rows : List Row) : Type 0 where

@@ -1,10 +1,10 @@
 //! An index under way.
-ghost use Rattle.std.specs.Prelude.{◌≡◌, ◌-◌, ◌∷◌, ◌++◌, [], length, map, IfOk, OnOk, OnErr, slice_get};
+ghost use Rattle.std.specs.Prelude.{◌≡◌, ◌-◌, ◌∷◌, ◌++◌, [], length, map, IfOk, OnOk, OnErr, slice_get, MatchBool};
 ghost use Rattle.std.specs.Option.{option_copied};
 ghost use Rattle.word_index.specs.Index.{Row, Hit};
-ghost use Rattle.index_table.specs.Rows.{words_of, paths_of, AreOrdered};
+ghost use Rattle.index_table.specs.Rows.{words_of, paths_of, AreOrdered, IsAmong};
 
-use crate::paths::{Paths, place_path, sort_paths};
+use crate::paths::{Paths, holds_path, place_path, sort_paths};
 use crate::table::Index;
 use std::alloc::{AllocError, Global};
 use std::marker::Model;
@@ -106,6 +106,13 @@ impl Draft {
         let text = String::from_str(self.alloc, path)?;
         self.skipped.push_reserved(text);
         Ok(())
+    }
+
+    /// Whether a row, or the row under way, has a file of this path.
+    pub fn has_path(&self, path: &str) -> bool
+        ensures { MatchBool result (IsAmong self.now path.now) (¬ IsAmong self.now path.now) }
+    {
+        holds_path(&self.paths, path)
     }
 
     /// The word of the last row.

@@ -1,6 +1,6 @@
 //! Paths, each once, and their numbers.
-ghost use Rattle.std.specs.Prelude.{◌≡◌, ◌<◌, ℕ, [], List, length, map, IfOk, OnOk, OnErr, slice_index, slice_index_or, slice_get, Some};
-ghost use Rattle.std.specs.List.{All};
+ghost use Rattle.std.specs.Prelude.{◌≡◌, ◌<◌, ℕ, [], List, length, map, IfOk, OnOk, OnErr, slice_index, slice_index_or, slice_get, Some, MatchBool};
+ghost use Rattle.std.specs.List.{All, Contains};
 ghost use Rattle.index_table.specs.Paths.{texts, values, AreNumbered, Grows, AreRanks, IsRanked};
 
 use indexmap::IndexMap;
@@ -23,6 +23,16 @@ pub fn place_path(alloc: Global, paths: &mut Paths, path: &str) -> Result<u32, A
     let text = String::from_str(alloc, path)?;
     paths.insert(text, number)?;
     Ok(number)
+}
+
+/// Whether the path is there.
+pub fn holds_path(paths: &Paths, path: &str) -> bool
+    ensures { MatchBool result (Contains (texts paths.now.entries) path.now) (¬ Contains (texts paths.now.entries) path.now) }
+{
+    match paths.get_index_of(path) {
+        Some(_) => true,
+        None => false,
+    }
 }
 
 // Writes down at which place each number stands.

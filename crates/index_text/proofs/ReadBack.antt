@@ -17,7 +17,7 @@ use Rattle.index_text.specs.Laws.{IsFile, AreFiles}
 use Rattle.index_text.proofs.FileWords.{file_counted}
 use Rattle.index_text.proofs.Printed.{printed_from}
 
--- what rises from the last text on, is told element by element
+-- what rises from the last text on, is offered element by element
 module _ {X : Type 0} (key : X → List ℕ) where
   abbrev Rises : List X → Type 0
   Rises xs = AllPairs (λ x y. IsBelow (key x) (key y)) xs

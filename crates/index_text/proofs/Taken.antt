@@ -12,59 +12,63 @@ use Rattle.exact_text.specs.Long.{IsLongAsked}
 use Rattle.text_output.specs.Paths.{newline}
 use Rattle.word_index.specs.Index.{Hit, Row}
 use Rattle.index_print.specs.Text.{hit_line, skipped_line}
-use Rattle.index_table.specs.Rows.{Drafted}
+use Rattle.index_text.specs.Offered.{Offered, nothing, with_word, with_end, last_path, last_word, last_skipped}
 use Rattle.index_text.specs.declared.lines.Prefix.{Prefix}
 use Rattle.index_text.specs.declared.lines.Prefix.TheVariants as prefixes
 use Rattle.index_text.specs.Numerals.{numeral, capped}
 use Rattle.index_text.specs.Texts.{IsHit, IsAbove, AreHits, AreRows, ArePaths, word_line, row_text, text_of}
 use Rattle.index_text.specs.Lines.{Heading, word, skipped, heading_at, hit_at, skipped_at}
 use Rattle.index_text.specs.Next.{IsLast, IsLastPath, IsNext, IsHeading, heading_text, IsTaken, TakesLine, SaysHeading, SaysHit, SaysPath}
-use Rattle.index_text.specs.Steps.{IsRowsText, IsHitsText, IsSkippedText, last_path, last_word, last_skipped}
+use Rattle.index_text.specs.Steps.{IsRowsText, IsHitsText, IsSkippedText}
 use Rattle.index_text.specs.Takes.{Lacks, IsAll, TakesHit, TakesSkipped, TakesPaths, TakesRow, TakesRows}
 use Rattle.index_text.proofs.LineCodes.{heading_code, hit_code, skipped_code}
 use Rattle.index_text.proofs.States.{Following, rows_grammar, skipped_grammar, hits_grammar, rows_some, rows_back, skipped_some, skipped_back}
 use Rattle.index_text.proofs.Loops.{Reaches, reach_then, reach_heading, end_path, end_of, end_of_is, end_path_is, end_word_is, hits_push, paths_push, rows_push, path_stays, end_stays, word_stays, reach_hits, reach_paths, reach_rows, lines_of, lines_push}
 use Rattle.index_text.proofs.Reasons.{taken_none, taken_then, taken_asked, taken_all, all_after, lacks_after, lacks_line, lacks_first, lacks_asked}
 
+-- a taker that was offered something was offered more
+abbrev pub Follows : {S : Type 0} → (S → Offered → S → Type 0) → S → S → (Offered → Type 0) → (Offered → Offered → Type 0) → Type 0
+Follows {S} keeps old now Before Takes = (first : S) (t : Offered) → keeps first t old → Before t → (u : Offered) × keeps first u now × Takes t u
+
 lines_append : {X : Type 0} (f : X → List ℕ) (xs : List X) (x : X) → flat_map f xs ++ f x ≡ flat_map f (xs ++ x ∷ [])
 lines_append f xs x = sym (flat_map-append f xs (x ∷ []) ∙ ap (λ l. flat_map f xs ++ l) (append-nil (f x)))
 
 -- the line of a file, with the path that was laid down
-pub hit_taken : (last : Option (List ℕ)) (was is : Drafted) (old new : Intake) (left left' : Option (List ℕ)) (before since : ℕ) (laid : List ℕ) (figures : ℕ × ℕ) → last ≡ last_path was
+pub hit_taken : (last : Option (List ℕ)) (was is : Offered) (old new : Intake) (left left' : Option (List ℕ)) (before since : ℕ) (laid : List ℕ) (figures : ℕ × ℕ) → last ≡ last_path was
     → TakesLine (IsHit last) hit_line (hit_at last) (SaysHit laid) old new left left' before since (Ok figures) → is ≡ record was { hits = was.hits ++ record { path = laid; count = figures.0; line = figures.1 } ∷ [] }
     → TakesHit was is old new left left' before since (Ok tt)
 hit_taken last was is old new left left' before since laid figures same h e = (h.0, subst (λ l. IsHit l h.0) same h.2, h.3, e ∙ ap (λ (x : Hit). record was { hits = was.hits ++ x ∷ [] }) (sym h.1))
 
-pub hit_stuck : (last : Option (List ℕ)) (was is : Drafted) (old new : Intake) (left left' : Option (List ℕ)) (before since : ℕ) (laid : List ℕ) (f : TextFault) → last ≡ last_path was
+pub hit_stuck : (last : Option (List ℕ)) (was is : Offered) (old new : Intake) (left left' : Option (List ℕ)) (before since : ℕ) (laid : List ℕ) (f : TextFault) → last ≡ last_path was
     → TakesLine (IsHit last) hit_line (hit_at last) (SaysHit laid) old new left left' before since (Err f) → TakesHit was is old new left left' before since (Err f)
 hit_stuck last was is old new left left' before since laid f same h =
     subst (λ l. OrMemory (IsStuck (hit_at l) old.lines (room_of old) (rest_of old left) left' before since) f) same h
 
 -- that of a skipped path
-pub skip_taken : (last : Option (List ℕ)) (was is : Drafted) (old new : Intake) (left left' : Option (List ℕ)) (before since : ℕ) (laid : List ℕ) → last ≡ last_skipped was
+pub skip_taken : (last : Option (List ℕ)) (was is : Offered) (old new : Intake) (left left' : Option (List ℕ)) (before since : ℕ) (laid : List ℕ) → last ≡ last_skipped was
     → TakesLine (IsNext last) skipped_line (skipped_at last) (SaysPath laid) old new left left' before since (Ok tt) → is ≡ record was { skipped = was.skipped ++ laid ∷ [] } → TakesSkipped was is old new left left' before since (Ok tt)
 skip_taken last was is old new left left' before since laid same h e = (h.0, subst (λ l. IsNext l h.0) same h.2, h.3, e ∙ ap (λ (x : List ℕ). record was { skipped = was.skipped ++ x ∷ [] }) (sym h.1))
 
-pub skip_stuck : (last : Option (List ℕ)) (was is : Drafted) (old new : Intake) (left left' : Option (List ℕ)) (before since : ℕ) (laid : List ℕ) (f : TextFault) → last ≡ last_skipped was
+pub skip_stuck : (last : Option (List ℕ)) (was is : Offered) (old new : Intake) (left left' : Option (List ℕ)) (before since : ℕ) (laid : List ℕ) (f : TextFault) → last ≡ last_skipped was
     → TakesLine (IsNext last) skipped_line (skipped_at last) (SaysPath laid) old new left left' before since (Err f) → TakesSkipped was is old new left left' before since (Err f)
 skip_stuck last was is old new left left' before since laid f same h =
     subst (λ l. OrMemory (IsStuck (skipped_at l) old.lines (room_of old) (rest_of old left) left' before since) f) same h
 
 -- the last path of a row under way
-pub last_hit_is : (d : Drafted) → AreHits None d.hits → IsLastPath (last_path d)
+pub last_hit_is : (d : Offered) → AreHits None d.hits → IsLastPath (last_path d)
 last_hit_is d are = subst IsLastPath (end_path_is d.hits) (path_stays None d.hits tt are)
 
 pub skipped_long : (p : List ℕ) → 0 < length (skipped_line p)
 skipped_long p = simp length-append (omega arith)
 
 -- some hits of a row
-pub record TakenHits (many : ℕ) (start : Intake) (first : Option (List ℕ)) (old now : Drafted) (intake : Intake) (here : Option (List ℕ)) (left : ℕ) : Type 0 where
+pub record TakenHits (many : ℕ) (start : Intake) (first : Option (List ℕ)) (old now : Offered) (intake : Intake) (here : Option (List ℕ)) (left : ℕ) : Type 0 where
   pub are : AreHits None now.hits
   pub kept : now ≡ record old { hits = now.hits }
   pub count : many ≡ length now.hits + left
   pub taken : IsTaken (flat_map hit_line now.hits) (length now.hits) start intake first here
 
-pub hits_begin : (many : ℕ) (start : Intake) (first : Option (List ℕ)) (old : Drafted) → old.hits ≡ [] → TakenHits many start first old old start first many
+pub hits_begin : (many : ℕ) (start : Intake) (first : Option (List ℕ)) (old : Offered) → old.hits ≡ [] → TakenHits many start first old old start first many
 hits_begin many start first old none = record {
   are = subst (AreHits None) (sym none) tt;
   kept = refl;
@@ -72,10 +76,10 @@ hits_begin many start first old none = record {
   taken = taken_none start first (flat_map hit_line old.hits) (length old.hits) (ap (flat_map hit_line) none) (ap length none);
 }
 
-pub hits_next : {many : ℕ} {start : Intake} {first : Option (List ℕ)} {old now : Drafted} {intake : Intake} {here : Option (List ℕ)} {left : ℕ} → TakenHits many start first old now intake here left
-    → (new : Drafted) (after : Intake) (there : Option (List ℕ)) (before since : ℕ) → TakesHit now new intake after here there before since (Ok tt) → 0 < left → TakenHits many start first old new after there (left - 1)
+pub hits_next : {many : ℕ} {start : Intake} {first : Option (List ℕ)} {old now : Offered} {intake : Intake} {here : Option (List ℕ)} {left : ℕ} → TakenHits many start first old now intake here left
+    → (new : Offered) (after : Intake) (there : Option (List ℕ)) (before since : ℕ) → TakesHit now new intake after here there before since (Ok tt) → 0 < left → TakenHits many start first old new after there (left - 1)
 hits_next {many} {start} {first} {old} {now} {intake} {here} {left} t new after there before since h some =
-    let hits : new.hits ≡ now.hits ++ h.0 ∷ [] = ap (λ (d : Drafted). d.hits) h.3 in
+    let hits : new.hits ≡ now.hits ++ h.0 ∷ [] = ap (λ (d : Offered). d.hits) h.3 in
     let long : length new.hits ≡ length now.hits + 1 = ap length hits ∙ length_push now.hits h.0 in
     record {
       are = subst (AreHits None) (sym hits) (hits_push None now.hits h.0 t.are (subst (λ l. IsHit l h.0) (sym (end_path_is now.hits)) h.1));
@@ -85,19 +89,18 @@ hits_next {many} {start} {first} {old} {now} {intake} {here} {left} t new after 
     }
 
 -- so many hits as a counter can't count have no room in the bytes
-pub row_end : {many : ℕ} {start : Intake} {first : Option (List ℕ)} {old now : Drafted} {intake : Intake} {here : Option (List ℕ)} {left : ℕ} → TakenHits many start first old now intake here left
-    → (w : List ℕ) (new : Drafted) → new ≡ record { rows = now.rows ++ record { word = w; hits = now.hits } ∷ []; hits = []; skipped = now.skipped }
-    → left ≡ 0 → (n : ℕ) → many ≡ capped n → (before since : ℕ) → TakesRow w n old new start intake first here before since (Ok tt)
-row_end {many} {start} {first} {old} {now} {intake} {here} t w new is none n c before since =
+pub row_end : {many : ℕ} {start : Intake} {first : Option (List ℕ)} (w : List ℕ) (old : Offered) {now : Offered} {intake : Intake} {here : Option (List ℕ)} {left : ℕ} → TakenHits many start first (with_word w old) now intake here left
+    → left ≡ 0 → (n : ℕ) → many ≡ capped n → (before since : ℕ) → TakesRow w n old (with_end now) start intake first here before since (Ok tt)
+row_end {many} {start} {first} w old {now} {intake} {here} t none n c before since =
     let counted : length now.hits ≡ n = omega (arith, t.count, none, t.taken.lines, intake.read, intake.within, intake.below, c) in (
       now.hits,
       counted,
       t.are,
       subst (λ m. IsTaken (flat_map hit_line now.hits) m start intake first here) counted t.taken,
-      is ∙ ap (λ (d : Drafted). record { rows = d.rows ++ record { word = w; hits = d.hits } ∷ []; hits = []; skipped = d.skipped }) t.kept,
+      ap with_end t.kept,
     )
 
-pub hits_stop : {many : ℕ} {start : Intake} {first : Option (List ℕ)} {old now : Drafted} {intake : Intake} {here : Option (List ℕ)} {left : ℕ} → TakenHits many start first old now intake here left
+pub hits_stop : {many : ℕ} {start : Intake} {first : Option (List ℕ)} {old now : Offered} {intake : Intake} {here : Option (List ℕ)} {left : ℕ} → TakenHits many start first old now intake here left
     → (w : List ℕ) (there : Option (List ℕ)) (begin before since : ℕ) (f : TextFault) → OrMemory (IsStuck (hit_at (last_path now)) intake.lines (room_of intake) (rest_of intake here) there before since) f
     → before ≡ begin → 0 < left → (n : ℕ) → many ≡ capped n → Lacks (IsHitsText w n None) start first there begin since f
 hits_stop {many} {start} {first} {old} {now} {intake} {here} {left} t w there begin before since f h same some n c =
@@ -114,13 +117,13 @@ end_of_append last [] qs = refl
 end_of_append last (p ∷ ps) qs = end_of_append (Some p) ps qs
 
 -- some skipped paths
-pub record TakenPaths (start : Intake) (first : Option (List ℕ)) (old now : Drafted) (intake : Intake) (here : Option (List ℕ)) : Type 0 where
+pub record TakenPaths (start : Intake) (first : Option (List ℕ)) (old now : Offered) (intake : Intake) (here : Option (List ℕ)) : Type 0 where
   pub paths : List (List ℕ)
   pub are : ArePaths (last_skipped old) paths
   pub kept : now ≡ record old { skipped = old.skipped ++ paths }
   pub taken : IsTaken (flat_map skipped_line paths) (length paths) start intake first here
 
-pub paths_begin : (start : Intake) (first : Option (List ℕ)) (old : Drafted) → TakenPaths start first old old start first
+pub paths_begin : (start : Intake) (first : Option (List ℕ)) (old : Offered) → TakenPaths start first old old start first
 paths_begin start first old = record {
   paths = [];
   are = tt;
@@ -128,10 +131,10 @@ paths_begin start first old = record {
   taken = taken_none start first [] 0 refl refl;
 }
 
-pub last_is : (old : Drafted) → ArePaths None old.skipped → IsLastPath (last_skipped old)
+pub last_is : (old : Offered) → ArePaths None old.skipped → IsLastPath (last_skipped old)
 last_is old are = subst IsLastPath (end_of_is old.skipped) (end_stays None old.skipped tt are)
 
-last_now : (old now : Drafted) (paths : List (List ℕ)) → now ≡ record old { skipped = old.skipped ++ paths } → last_skipped now ≡ end_of (last_skipped old) paths
+last_now : (old now : Offered) (paths : List (List ℕ)) → now ≡ record old { skipped = old.skipped ++ paths } → last_skipped now ≡ end_of (last_skipped old) paths
 last_now old now paths kept =
     ap last_skipped kept ∙ sym (end_of_is (old.skipped ++ paths)) ∙ end_of_append None old.skipped paths ∙ ap (λ l. end_of l paths) (end_of_is old.skipped)
 
@@ -139,21 +142,21 @@ paths_join : (last : Option (List ℕ)) (ps qs : List (List ℕ)) → ArePaths l
 paths_join last [] qs a b = b
 paths_join last (p ∷ ps) qs a b = (a.0, paths_join (Some p) ps qs a.1 b)
 
-module _ {start : Intake} {first : Option (List ℕ)} {old now : Drafted} {intake : Intake} {here : Option (List ℕ)} (before : ArePaths None old.skipped) (t : TakenPaths start first old now intake here) where
+module _ {start : Intake} {first : Option (List ℕ)} {old now : Offered} {intake : Intake} {here : Option (List ℕ)} (before : ArePaths None old.skipped) (t : TakenPaths start first old now intake here) where
   -- all that are skipped rise
   pub paths_rise : ArePaths None now.skipped
   paths_rise =
-      subst (ArePaths None) (sym (ap (λ (d : Drafted). d.skipped) t.kept)) (paths_join None old.skipped t.paths before (subst (λ l. ArePaths l t.paths) (sym (end_of_is old.skipped)) t.are))
+      subst (ArePaths None) (sym (ap (λ (d : Offered). d.skipped) t.kept)) (paths_join None old.skipped t.paths before (subst (λ l. ArePaths l t.paths) (sym (end_of_is old.skipped)) t.are))
 
   paths_reach : (rest : List ℕ) → Reaches (IsSkippedText (last_skipped old)) (flat_map skipped_line t.paths ++ rest) (IsSkippedText (last_skipped now)) rest (length t.paths)
   paths_reach rest =
       subst (λ l. Reaches (IsSkippedText (last_skipped old)) (flat_map skipped_line t.paths ++ rest) (IsSkippedText l) rest (length t.paths)) (sym (last_now old now t.paths t.kept))
       (reach_paths (last_skipped old) t.paths (last_is old before) t.are rest)
 
-  pub paths_next : (new : Drafted) (mid after : Intake) (on there : Option (List ℕ)) (a b c d : ℕ) → IsLongAsked intake mid here on a b (Ok true) → TakesSkipped now new mid after on there c d (Ok tt) → TakenPaths start first old new after there
+  pub paths_next : (new : Offered) (mid after : Intake) (on there : Option (List ℕ)) (a b c d : ℕ) → IsLongAsked intake mid here on a b (Ok true) → TakesSkipped now new mid after on there c d (Ok tt) → TakenPaths start first old new after there
   paths_next new mid after on there a b c d asked h =
       let ps = t.paths ++ h.0 ∷ [] in
-      let whole : now.skipped ++ h.0 ∷ [] ≡ old.skipped ++ ps = ap (λ (d : Drafted). d.skipped ++ h.0 ∷ []) t.kept ∙ append_assoc old.skipped t.paths (h.0 ∷ []) in
+      let whole : now.skipped ++ h.0 ∷ [] ≡ old.skipped ++ ps = ap (λ (d : Offered). d.skipped ++ h.0 ∷ []) t.kept ∙ append_assoc old.skipped t.paths (h.0 ∷ []) in
       let line = taken_then (taken_asked intake mid here on a b asked) h.2 (skipped_line h.0) 1 refl refl in
       record {
         paths = ps;
@@ -177,21 +180,14 @@ module _ {start : Intake} {first : Option (List ℕ)} {old now : Drafted} {intak
       (lacks_first (skipped_some last) (skipped_back last) (skipped_grammar last ok) (skipped_code last ok) intake mid here on there a b c f asked unfailed h)
 
 -- some rows
-pub record TakenRows (start : Intake) (first : Option (List ℕ)) (now : Drafted) (intake : Intake) (here : Option (List ℕ)) : Type 0 where
+pub record TakenRows (start : Intake) (first : Option (List ℕ)) (now : Offered) (intake : Intake) (here : Option (List ℕ)) : Type 0 where
   pub are : AreRows None now.rows
   pub hits : now.hits ≡ []
   pub skips : now.skipped ≡ []
   pub taken : IsTaken (flat_map row_text now.rows) (lines_of now.rows) start intake first here
 
-pub rows_begin : (start : Intake) (first : Option (List ℕ)) (now : Drafted) → now ≡ record { rows = []; hits = []; skipped = [] } → TakenRows start first now start first
-rows_begin start first now e =
-    let none : now.rows ≡ [] = ap (λ (d : Drafted). d.rows) e in
-    record {
-      are = subst (AreRows None) (sym none) tt;
-      hits = ap (λ (d : Drafted). d.hits) e;
-      skips = ap (λ (d : Drafted). d.skipped) e;
-      taken = taken_none start first (flat_map row_text now.rows) (lines_of now.rows) (ap (flat_map row_text) none) (ap lines_of none);
-    }
+pub rows_begin : (start : Intake) (first : Option (List ℕ)) → TakenRows start first nothing start first
+rows_begin start first = record { are = tt; hits = refl; skips = refl; taken = taken_none start first [] 0 refl refl }
 
 -- what a prefix says, with the number of files however large
 says_word : (x : Heading) (laid : List ℕ) (many : ℕ) → SaysHeading laid (prefixes.Word many) x → (n : ℕ) × (many ≡ capped n) × (x ≡ word laid n)
@@ -210,11 +206,11 @@ heading_some (word w n) = simp length-append (omega arith)
 heading_some (skipped p) = skipped_long p
 
 -- a heading above the last word of the draft
-pub heading_now : (last : Option (List ℕ)) (now : Drafted) (mid after : Intake) (on there : Option (List ℕ)) (b s : ℕ) (laid : List ℕ) (y : Prefix) → last ≡ last_word now
+pub heading_now : (last : Option (List ℕ)) (now : Offered) (mid after : Intake) (on there : Option (List ℕ)) (b s : ℕ) (laid : List ℕ) (y : Prefix) → last ≡ last_word now
     → TakesLine (IsHeading last) heading_text (heading_at last) (SaysHeading laid) mid after on there b s (Ok y) → TakesLine (IsHeading (last_word now)) heading_text (heading_at (last_word now)) (SaysHeading laid) mid after on there b s (Ok y)
 heading_now last now mid after on there b s laid y same h = subst (λ (l : Option (List ℕ)). TakesLine (IsHeading l) heading_text (heading_at l) (SaysHeading laid) mid after on there b s (Ok y)) same h
 
-module _ {start : Intake} {first : Option (List ℕ)} {now : Drafted} {intake : Intake} {here : Option (List ℕ)} (t : TakenRows start first now intake here) where
+module _ {start : Intake} {first : Option (List ℕ)} {now : Offered} {intake : Intake} {here : Option (List ℕ)} (t : TakenRows start first now intake here) where
   pub last_ok : IsLast (last_word now)
   last_ok = subst IsLast (end_word_is now.rows) (word_stays None now.rows tt t.are)
 
@@ -254,17 +250,17 @@ module _ {start : Intake} {first : Option (List ℕ)} {now : Drafted} {intake : 
     pub row_many : (many : ℕ) → SaysHeading laid (prefixes.Word many) x → 1 ≤ many
     row_many many says = let s = says_word x laid many says in let k : IsHeading (last_word now) (word laid s.0) = subst (IsHeading (last_word now)) s.2 is in omega (arith, k.1, s.1)
 
-    pub row_smaller : (many : ℕ) → SaysHeading laid (prefixes.Word many) x → (new : Drafted) (last : Intake) (end : Option (List ℕ)) (c d : ℕ)
+    pub row_smaller : (many : ℕ) → SaysHeading laid (prefixes.Word many) x → (new : Offered) (last : Intake) (end : Option (List ℕ)) (c d : ℕ)
         → ((n : ℕ) → many ≡ capped n → TakesRow laid n now new after last there end c d (Ok tt)) → room_of last < room_of intake
     row_smaller many says new last end c d all = let s = says_word x laid many says in let h = all s.0 s.1 in omega (arith, h.3.room, line.room, asked.1, heading_some x)
 
-    pub row_stop : (many : ℕ) → SaysHeading laid (prefixes.Word many) x → (new : Drafted) (last : Intake) (end : Option (List ℕ)) (begin c d : ℕ) (f : TextFault) → c ≡ begin
+    pub row_stop : (many : ℕ) → SaysHeading laid (prefixes.Word many) x → (new : Offered) (last : Intake) (end : Option (List ℕ)) (begin c d : ℕ) (f : TextFault) → c ≡ begin
         → ((n : ℕ) → many ≡ capped n → TakesRow laid n now new after last there end c d (Err f)) → Lacks (IsRowsText None) start first end begin d f
     row_stop many says new last end begin c d f same h =
         let s = says_word x laid many says in
         rows_after end begin c d f same (subst (λ y. Lacks (Following y) after there end c d f) (sym s.2) (h s.0 s.1))
 
-    pub rows_next : (many : ℕ) → SaysHeading laid (prefixes.Word many) x → (new : Drafted) (last : Intake) (end : Option (List ℕ)) (c d : ℕ)
+    pub rows_next : (many : ℕ) → SaysHeading laid (prefixes.Word many) x → (new : Offered) (last : Intake) (end : Option (List ℕ)) (c d : ℕ)
         → ((n : ℕ) → many ≡ capped n → TakesRow laid n now new after last there end c d (Ok tt)) → TakenRows start first new last end
     rows_next many says new last end c d all =
         let s = says_word x laid many says in
@@ -272,7 +268,7 @@ module _ {start : Intake} {first : Option (List ℕ)} {now : Drafted} {intake : 
         let h = all n s.1 in
         let k : IsHeading (last_word now) (word laid n) = subst (IsHeading (last_word now)) s.2 is in
         let row : Row = record { word = laid; hits = h.0 } in
-        let rows : new.rows ≡ now.rows ++ row ∷ [] = ap (λ (d : Drafted). d.rows) h.4 in
+        let rows : new.rows ≡ now.rows ++ row ∷ [] = ap (λ (d : Offered). d.rows) h.4 in
         let above = subst (λ o. IsAbove o laid) (sym (end_word_is now.rows)) k.0.1 in
         let some : 1 ≤ length h.0 = omega (arith, h.1, k.1) in
         let prefix : heading_text x ≡ word_line row = ap heading_text s.2 ∙ ap (λ k. laid ++ codes " " ++ numeral k ++ newline) (sym h.1) in
@@ -280,15 +276,15 @@ module _ {start : Intake} {first : Option (List ℕ)} {now : Drafted} {intake : 
         append_assoc (flat_map row_text now.rows) (heading_text x) (flat_map hit_line h.0) ∙ ap (λ l. flat_map row_text now.rows ++ (l ++ flat_map hit_line h.0)) prefix ∙ lines_append row_text now.rows row ∙ ap (flat_map row_text) (sym rows) in
         record {
           are = subst (AreRows None) (sym rows) (rows_push None now.rows row t.are (record { word = k.0.0; above = above; many = some; hits = h.2 }));
-          hits = ap (λ (d : Drafted). d.hits) h.4;
-          skips = ap (λ (d : Drafted). d.skipped) h.4 ∙ t.skips;
+          hits = ap (λ (d : Offered). d.hits) h.4;
+          skips = ap (λ (d : Offered). d.skipped) h.4 ∙ t.skips;
           taken = taken_then heading_taken h.3 (flat_map row_text new.rows) (lines_of new.rows) text (omega (arith, h.1, lines_push now.rows row, ap lines_of rows));
         }
 
     -- the skipped paths come last
-    module _ (says : SaysHeading laid prefixes.Skipped x) (first_path : Drafted) (m : first_path ≡ record now { skipped = now.skipped ++ laid ∷ [] }) where
+    module _ (says : SaysHeading laid prefixes.Skipped x) (first_path : Offered) (m : first_path ≡ record now { skipped = now.skipped ++ laid ∷ [] }) where
       one : first_path.skipped ≡ laid ∷ []
-      one = ap (λ (d : Drafted). d.skipped) m ∙ ap (λ l. l ++ laid ∷ []) t.skips
+      one = ap (λ (d : Offered). d.skipped) m ∙ ap (λ l. l ++ laid ∷ []) t.skips
 
       is_next : IsNext None laid
       is_next = let k : IsHeading (last_word now) (skipped laid) = subst (IsHeading (last_word now)) (says_skipped x laid says) is in k
@@ -296,17 +292,17 @@ module _ {start : Intake} {first : Option (List ℕ)} {now : Drafted} {intake : 
       pub first_skipped : ArePaths None first_path.skipped
       first_skipped = subst (ArePaths None) (sym one) (is_next, tt)
 
-      rows_paths : (new : Drafted) (last : Intake) (end : Option (List ℕ)) (c d : ℕ) → TakesPaths first_path new after last there end c d (Ok tt) → TakesRows new start last first end c d (Ok tt)
+      rows_paths : (new : Offered) (last : Intake) (end : Option (List ℕ)) (c d : ℕ) → TakesPaths first_path new after last there end c d (Ok tt) → TakesRows new start last first end c d (Ok tt)
       rows_paths new last end c d h =
-          let all : new.skipped ≡ laid ∷ h.0 = ap (λ (d : Drafted). d.skipped) h.3 ∙ ap (λ l. l ++ h.0) one in
-          let rows : new.rows ≡ now.rows = ap (λ (d : Drafted). d.rows) h.3 ∙ ap (λ (d : Drafted). d.rows) m in
+          let all : new.skipped ≡ laid ∷ h.0 = ap (λ (d : Offered). d.skipped) h.3 ∙ ap (λ l. l ++ h.0) one in
+          let rows : new.rows ≡ now.rows = ap (λ (d : Offered). d.rows) h.3 ∙ ap (λ (d : Offered). d.rows) m in
           let are = subst (λ l. ArePaths (slice_get l (length l - 1)) h.0) one h.1 in
           let prefix : heading_text x ≡ skipped_line laid = ap heading_text (says_skipped x laid says) in
           let text : (flat_map row_text now.rows ++ heading_text x) ++ flat_map skipped_line h.0 ≡ text_of new.rows new.skipped =
           append_assoc (flat_map row_text now.rows) (heading_text x) (flat_map skipped_line h.0) ∙ ap (λ l. flat_map row_text now.rows ++ (l ++ flat_map skipped_line h.0)) prefix ∙ (λ i. flat_map row_text (sym rows i) ++ flat_map skipped_line (sym all i)) in
-          (subst (AreRows None) (sym rows) t.are, subst (ArePaths None) (sym all) (is_next, are), ap (λ (d : Drafted). d.hits) h.3 ∙ ap (λ (d : Drafted). d.hits) m ∙ t.hits, all_after heading_taken h.2 text)
+          (subst (AreRows None) (sym rows) t.are, subst (ArePaths None) (sym all) (is_next, are), ap (λ (d : Offered). d.hits) h.3 ∙ ap (λ (d : Offered). d.hits) m ∙ t.hits, all_after heading_taken h.2 text)
 
-      pub rows_last : (new : Drafted) (last : Intake) (end : Option (List ℕ)) (begin c d : ℕ) (result : Result (Unit {0}) TextFault) → c ≡ begin → TakesPaths first_path new after last there end c d result → TakesRows new start last first end begin d result
+      pub rows_last : (new : Offered) (last : Intake) (end : Option (List ℕ)) (begin c d : ℕ) (result : Result (Unit {0}) TextFault) → c ≡ begin → TakesPaths first_path new after last there end c d result → TakesRows new start last first end begin d result
       rows_last new last end begin c d (Ok u) same h = rows_paths new last end begin d h
       rows_last new last end begin c d (Err f) same h =
           let s = says_skipped x laid says in

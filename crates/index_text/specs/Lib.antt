@@ -1,6 +1,9 @@
 pub mod Numerals
 pub mod Texts
 pub mod Lines
+pub mod Offered
+pub mod Whole
+pub mod Reads
 pub mod Faults
 pub mod Steps
 pub mod Escapes

@@ -1,11 +1,10 @@
 -- What one line gives.
-use Rattle.std.specs.Prelude.{◌≡◌, ℕ, Bool, true, take, ◌-◌, List, ◌++◌, length, slice_get, Option, Some, None, Result, Ok, Err}
+use Rattle.std.specs.Prelude.{◌≡◌, ℕ, Bool, true, take, List, ◌++◌, length, Option, Some, None, Result, Ok, Err}
 use Rattle.std.specs.List.{flat_map, AllByRecursion}
 use Rattle.exact_text.specs.declared.stop.Stop as exact
 use Rattle.exact_text.specs.declared.stop.Stop.TheVariants as stops
 use Rattle.word_index.specs.Index.{Hit, Row}
 use Rattle.index_print.specs.Text.{hit_line, skipped_line}
-use Rattle.index_table.specs.Rows.{Drafted, paths_of, words_of}
 use Rattle.index_text.specs.declared.fault.Stop.{Stop}
 use Rattle.index_text.specs.declared.fault.Stop.TheVariants.{Memory, More, Dead}
 use Rattle.index_text.specs.declared.lines.Prefix.{Prefix}
@@ -23,15 +22,6 @@ Gives view (Err Dead) read = read ≡ Err stops.Dead
 -- nothing was read, and why
 abbrev pub Stops : {Y : Type 0} → Result Y exact.Stop → Stop → Type 0
 Stops {Y} read stop = Gives {X = Y} {Y = Y} (λ x. x) (Err stop) read
-
-abbrev pub last_path : Drafted → Option (List ℕ)
-last_path d = slice_get (paths_of d.hits) (length d.hits - 1)
-
-abbrev pub last_word : Drafted → Option (List ℕ)
-last_word d = slice_get (words_of d.rows) (length d.rows - 1)
-
-abbrev pub last_skipped : Drafted → Option (List ℕ)
-last_skipped d = slice_get d.skipped (length d.skipped - 1)
 
 -- the word that was laid down and its number, or the path
 abbrev pub heading_of : List ℕ → Prefix → Heading

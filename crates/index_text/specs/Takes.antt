@@ -8,11 +8,11 @@ use Rattle.exact_text.specs.Exact.{IsStuck, HasReason, OrMemory, bytes_room}
 use Rattle.exact_text.specs.Intake.{rest_of, room_of}
 use Rattle.word_index.specs.Index.{Hit}
 use Rattle.index_print.specs.Text.{hit_line, skipped_line}
-use Rattle.index_table.specs.Rows.{Drafted}
 use Rattle.index_text.specs.Texts.{IsHit, AreHits, AreRows, ArePaths, text_of}
 use Rattle.index_text.specs.Lines.{hit_at, skipped_at}
 use Rattle.index_text.specs.Next.{IsNext, IsTaken}
-use Rattle.index_text.specs.Steps.{last_path, last_skipped, IsRowsText, IsHitsText, IsSkippedText}
+use Rattle.index_text.specs.Offered.{Offered, with_hit, with_skipped, last_path, last_skipped}
+use Rattle.index_text.specs.Steps.{IsRowsText, IsHitsText, IsSkippedText}
 
 -- why the rest isn't a text of this language, of which so many bytes may be read
 abbrev pub Lacks : (List ℕ → Type 0) → Intake → Option (List ℕ) → Option (List ℕ) → ℕ → ℕ → TextFault → Type 0
@@ -26,38 +26,38 @@ pub record IsAll (text : List ℕ) (old : Intake) (left left' : Option (List ℕ
   pub end : IsAtEnd left'
 
 -- the line of a file was taken
-abbrev pub TakesHit : Drafted → Drafted → Intake → Intake → Option (List ℕ) → Option (List ℕ) → ℕ → ℕ
+abbrev pub TakesHit : Offered → Offered → Intake → Intake → Option (List ℕ) → Option (List ℕ) → ℕ → ℕ
     → Result (Unit {0}) TextFault → Type 0
 TakesHit was is old new left left' before now (Ok u) = (hit : Hit) × IsHit (last_path was) hit × IsTaken (hit_line hit) 1 old new left left'
-    × (is ≡ record was { hits = was.hits ++ hit ∷ [] })
+    × (is ≡ with_hit hit was)
 TakesHit was is old new left left' before now (Err f) =
     OrMemory (IsStuck (hit_at (last_path was)) old.lines (room_of old) (rest_of old left) left' before now) f
 
 -- the line of a skipped path was taken
-abbrev pub TakesSkipped : Drafted → Drafted → Intake → Intake → Option (List ℕ) → Option (List ℕ) → ℕ → ℕ
+abbrev pub TakesSkipped : Offered → Offered → Intake → Intake → Option (List ℕ) → Option (List ℕ) → ℕ → ℕ
     → Result (Unit {0}) TextFault → Type 0
 TakesSkipped was is old new left left' before now (Ok u) = (path : List ℕ) × IsNext (last_skipped was) path
-    × IsTaken (skipped_line path) 1 old new left left' × (is ≡ record was { skipped = was.skipped ++ path ∷ [] })
+    × IsTaken (skipped_line path) 1 old new left left' × (is ≡ with_skipped path was)
 TakesSkipped was is old new left left' before now (Err f) =
     OrMemory (IsStuck (skipped_at (last_skipped was)) old.lines (room_of old) (rest_of old left) left' before now) f
 
 -- a row was taken after its first line
-abbrev pub TakesRow : List ℕ → ℕ → Drafted → Drafted → Intake → Intake → Option (List ℕ) → Option (List ℕ) → ℕ → ℕ
+abbrev pub TakesRow : List ℕ → ℕ → Offered → Offered → Intake → Intake → Option (List ℕ) → Option (List ℕ) → ℕ → ℕ
     → Result (Unit {0}) TextFault → Type 0
 TakesRow w many was is old new left left' before now (Ok u) = (hits : List Hit) × (length hits ≡ many) × AreHits None hits
     × IsTaken (flat_map hit_line hits) many old new left left'
-    × (is ≡ record { rows = was.rows ++ record { word = w; hits = hits } ∷ []; hits = []; skipped = was.skipped })
+    × (is ≡ record { rows = was.rows ++ record { word = w; hits = hits } ∷ []; word = w; hits = []; skipped = was.skipped })
 TakesRow w many was is old new left left' before now (Err f) = Lacks (IsHitsText w many None) old left left' before now f
 
 -- the skipped paths were taken up to the end
-abbrev pub TakesPaths : Drafted → Drafted → Intake → Intake → Option (List ℕ) → Option (List ℕ) → ℕ → ℕ
+abbrev pub TakesPaths : Offered → Offered → Intake → Intake → Option (List ℕ) → Option (List ℕ) → ℕ → ℕ
     → Result (Unit {0}) TextFault → Type 0
 TakesPaths was is old new left left' before now (Ok u) = (paths : List (List ℕ)) × ArePaths (last_skipped was) paths
     × IsAll (flat_map skipped_line paths) old left left' × (is ≡ record was { skipped = was.skipped ++ paths })
 TakesPaths was is old new left left' before now (Err f) = Lacks (IsSkippedText (last_skipped was)) old left left' before now f
 
 -- rows and skipped paths were taken up to the end
-abbrev pub TakesRows : Drafted → Intake → Intake → Option (List ℕ) → Option (List ℕ) → ℕ → ℕ → Result (Unit {0}) TextFault → Type 0
+abbrev pub TakesRows : Offered → Intake → Intake → Option (List ℕ) → Option (List ℕ) → ℕ → ℕ → Result (Unit {0}) TextFault → Type 0
 TakesRows is old new left left' before now (Ok u) = AreRows None is.rows × ArePaths None is.skipped × (is.hits ≡ [])
     × IsAll (text_of is.rows is.skipped) old left left'
 TakesRows is old new left left' before now (Err f) = Lacks (IsRowsText None) old left left' before now f

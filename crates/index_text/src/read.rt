@@ -4,11 +4,14 @@ ghost use Rattle.std.specs.Io.KnownBytes.{IsAtEnd};
 ghost use Rattle.exact_text.specs.Intake.{IsReported};
 ghost use Rattle.index_text.specs.Faults.{budget, most_bytes, HasReasonIn};
 ghost use Rattle.index_text.specs.Texts.{ReadsAs};
+ghost use Rattle.index_text.specs.Reads.{HasOffered};
 
 use crate::take::take_rows;
+use crate::taker::Taker;
+use crate::whole::Whole;
 use exact_text::{LongIntake, TextFault};
 use firefly_outside::Source;
-use index_table::{Draft, Index};
+use index_table::Index;
 use std::alloc::Global;
 
 /// How many bytes a text may have where nothing else is said.
@@ -40,23 +43,40 @@ pub fn read_index_within<I: Source>(
     ensures fault { IfErr result (HasReasonIn most (I.left input.old) (I.left input.new) (I.faults input.old) (I.faults input.new)) }
     ensures reported { IsReported (I.faults input.old) (I.faults input.new) result }
 {
+    let mut whole = Whole::new(alloc);
+    match offer_index(alloc, input, most, &mut whole) {
+        Ok(()) => match whole.finish() {
+            Ok(index) => Ok(index),
+            Err(_) => Err(TextFault::Memory),
+        },
+        Err(fault) => Err(fault),
+    }
+}
+
+/// Reads the index text that the source gives, which has at most so many bytes, and offers the taker each row and skipped path on the way.
+///
+/// Each fault is as `read_index` says, and `Memory` also where the taker finds none.
+pub fn offer_index<I: Source, T: Taker>(
+    alloc: Global,
+    input: &mut I,
+    most: u64,
+    taker: &mut T,
+) -> Result<(), TextFault>
+    requires { most ≤ most_bytes }
+    ensures offered { OnOk result (HasOffered T.keeps most (I.left input.old) taker.old taker.new) }
+    ensures end { OnOk result (IsAtEnd (I.left input.new)) }
+    ensures fault { IfErr result (HasReasonIn most (I.left input.old) (I.left input.new) (I.faults input.old) (I.faults input.new)) }
+    ensures reported { IsReported (I.faults input.old) (I.faults input.new) result }
+{
     let mut intake = LongIntake::new(alloc, most);
-    // The first bytes make the key of the table.
     match intake.fill(input) {
         Ok(_) => {}
         Err(fault) => return Err(fault),
     }
-    let mut draft = Draft::new(alloc, intake.bytes());
     let mut name = Vec::new(alloc);
     let mut out = Vec::new(alloc);
-    match take_rows(&mut intake, input, &mut draft, &mut name, &mut out) {
-        Ok(()) => match draft.finish() {
-            Ok(index) => Ok(index),
-            Err(_) => Err(TextFault::Memory),
-        },
-        Err(fault) => {
-            drop(draft);
-            Err(fault)
-        }
+    match take_rows(&mut intake, input, taker, &mut name, &mut out) {
+        Ok(()) => Ok(()),
+        Err(fault) => Err(fault),
     }
 }

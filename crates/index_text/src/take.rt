@@ -1,141 +1,104 @@
 //! Index texts, taken from a source.
-ghost use Rattle.std.specs.Prelude.{◌≡◌, ℕ, ◌≤◌, [], ◌∷◌, ◌++◌, None, OnOk};
-ghost use Rattle.std.specs.Option.{option_copied};
+ghost use Rattle.std.specs.Prelude.{◌≡◌, ℕ, ◌≤◌, [], None, OnOk};
 ghost use Rattle.exact_text.specs.Intake.{IsReported};
 ghost use Rattle.index_text.specs.Numerals.{capped};
-ghost use Rattle.index_text.specs.Texts.{AreHits, AreRows, ArePaths};
+ghost use Rattle.index_text.specs.Texts.{AreHits, ArePaths};
+ghost use Rattle.index_text.specs.Offered.{Offered, Offers, IsOffered};
 ghost use Rattle.index_text.specs.Takes.{TakesHit, TakesPaths, TakesRow, TakesRows, TakesSkipped};
 
 use crate::lines::Prefix;
 use crate::next::{next_heading, next_hit, next_skipped};
+use crate::taker::Taker;
 use exact_text::{LongIntake, TextFault};
 use firefly_outside::Source;
-use index_table::Draft;
-use std::alloc::AllocError;
-use std::str::from_utf8;
-
-// The bytes of the last path.
-fn bytes_of(last: Option<&str>) -> Option<&[u8]>
-    ensures { option_copied result ≡ option_copied last.entry }
-{
-    match last {
-        Some(text) => Some(text.as_bytes()),
-        None => None,
-    }
-}
-
-// Adds the path that was laid down.
-fn add_skipped(draft: &mut Draft, path: &[u8]) -> Result<(), AllocError>
-    ensures { OnOk result (draft.new ≡ record draft.old { skipped = draft.old.skipped ++ path.now ∷ [] }) }
-{
-    match from_utf8(path) {
-        Ok(text) => match draft.skip(text) {
-            Ok(()) => Ok(()),
-            Err(_) => Err(AllocError),
-        },
-        Err(_) => Err(AllocError),
-    }
-}
-
-// Adds the hit whose path was laid down.
-fn add_hit(draft: &mut Draft, path: &[u8], figures: (u64, u64)) -> Result<(), AllocError>
-    ensures { OnOk result (draft.new
-        ≡ record draft.old { hits = draft.old.hits ++ record { path = path.now; count = figures.0; line = figures.1 } ∷ [] }) }
-{
-    match from_utf8(path) {
-        Ok(text) => match draft.hit(text, figures.0, figures.1) {
-            Ok(()) => Ok(()),
-            Err(_) => Err(AllocError),
-        },
-        Err(_) => Err(AllocError),
-    }
-}
 
 // Takes the line of a skipped path above the last one.
-fn take_skipped<I: Source>(
+fn take_skipped<I: Source, T: Taker>(
     intake: &mut LongIntake,
     input: &mut I,
-    draft: &mut Draft,
+    taker: &mut T,
     out: &mut Vec<u8>,
 ) -> Result<(), TextFault>
-    requires { ArePaths None draft.old.skipped }
-    ensures taken { TakesSkipped draft.old draft.new intake.old intake.new (I.left input.old) (I.left input.new)
-        (I.faults input.old) (I.faults input.new) result }
+    requires { IsOffered T.keeps taker.old (λ t. ArePaths None t.skipped) }
+    ensures taken { Offers T.keeps taker.old taker.new result (λ t. ArePaths None t.skipped) (λ t t'. TakesSkipped t t' intake.old intake.new
+        (I.left input.old) (I.left input.new) (I.faults input.old) (I.faults input.new) result) }
     ensures reported { IsReported (I.faults input.old) (I.faults input.new) result }
 {
-    let last = bytes_of(draft.last_skipped());
-    match next_skipped(intake, input, last, out) {
+    match next_skipped(intake, input, taker.last_skipped(), out) {
         Ok(()) => {}
         Err(fault) => return Err(fault),
     }
-    match add_skipped(draft, out) {
+    match taker.skip(out) {
         Ok(()) => Ok(()),
         Err(_) => Err(TextFault::Memory),
     }
 }
 
 // Takes the line of a file with a path above the last one of the row.
-fn take_hit<I: Source>(
+fn take_hit<I: Source, T: Taker>(
     intake: &mut LongIntake,
     input: &mut I,
-    draft: &mut Draft,
+    taker: &mut T,
     out: &mut Vec<u8>,
 ) -> Result<(), TextFault>
-    requires { AreHits None draft.old.hits }
-    ensures taken { TakesHit draft.old draft.new intake.old intake.new (I.left input.old) (I.left input.new)
-        (I.faults input.old) (I.faults input.new) result }
+    requires { IsOffered T.keeps taker.old (λ t. AreHits None t.hits) }
+    ensures taken { Offers T.keeps taker.old taker.new result (λ t. AreHits None t.hits) (λ t t'. TakesHit t t' intake.old intake.new
+        (I.left input.old) (I.left input.new) (I.faults input.old) (I.faults input.new) result) }
     ensures reported { IsReported (I.faults input.old) (I.faults input.new) result }
 {
-    let last = bytes_of(draft.last_path());
-    let figures = match next_hit(intake, input, last, out) {
+    let (count, line) = match next_hit(intake, input, taker.last_path(), out) {
         Ok(figures) => figures,
         Err(fault) => return Err(fault),
     };
-    match add_hit(draft, out, figures) {
+    match taker.hit(out, count, line) {
         Ok(()) => Ok(()),
         Err(_) => Err(TextFault::Memory),
     }
 }
 
 // Takes a row of so many hits after its first line. The greatest number of 64 bits stands for every greater one too: the bytes end first.
-fn take_row<I: Source>(
+fn take_row<I: Source, T: Taker>(
     intake: &mut LongIntake,
     input: &mut I,
     word: &[u8],
     many: u64,
-    draft: &mut Draft,
+    taker: &mut T,
     out: &mut Vec<u8>,
 ) -> Result<(), TextFault>
-    requires none { draft.old.hits ≡ [] }
+    requires none { IsOffered T.keeps taker.old (λ t. t.hits ≡ []) }
     requires many { 1 ≤ many }
-    ensures taken { (n : ℕ) → many ≡ capped n → TakesRow word.now n draft.old draft.new intake.old intake.new (I.left input.old)
-        (I.left input.new) (I.faults input.old) (I.faults input.new) result }
+    ensures taken { Offers T.keeps taker.old taker.new result (λ t. t.hits ≡ []) (λ t t'. (n : ℕ) → many ≡ capped n → TakesRow word.now n t t'
+        intake.old intake.new (I.left input.old) (I.left input.new) (I.faults input.old) (I.faults input.new) result) }
     ensures reported { IsReported (I.faults input.old) (I.faults input.new) result }
 {
+    match taker.begin_row(word) {
+        Ok(()) => {}
+        Err(_) => return Err(TextFault::Memory),
+    }
     let mut left = many;
     while left > 0 {
-        match take_hit(intake, input, draft, out) {
+        match take_hit(intake, input, taker, out) {
             Ok(()) => {}
             Err(fault) => return Err(fault),
         }
         left -= 1;
     }
-    match draft.end_row(word) {
+    match taker.end_row() {
         Ok(()) => Ok(()),
         Err(_) => Err(TextFault::Memory),
     }
 }
 
 // Takes skipped paths up to the end.
-fn take_paths<I: Source>(
+fn take_paths<I: Source, T: Taker>(
     intake: &mut LongIntake,
     input: &mut I,
-    draft: &mut Draft,
+    taker: &mut T,
     out: &mut Vec<u8>,
 ) -> Result<(), TextFault>
-    requires before { ArePaths None draft.old.skipped }
-    ensures taken { TakesPaths draft.old draft.new intake.old intake.new (I.left input.old) (I.left input.new) (I.faults input.old)
-        (I.faults input.new) result }
+    requires before { IsOffered T.keeps taker.old (λ t. ArePaths None t.skipped) }
+    ensures taken { Offers T.keeps taker.old taker.new result (λ t. ArePaths None t.skipped) (λ t t'. TakesPaths t t' intake.old intake.new
+        (I.left input.old) (I.left input.new) (I.faults input.old) (I.faults input.new) result) }
     ensures reported { IsReported (I.faults input.old) (I.faults input.new) result }
 {
     loop {
@@ -144,7 +107,7 @@ fn take_paths<I: Source>(
             Ok(false) => return Ok(()),
             Err(fault) => return Err(fault),
         }
-        match take_skipped(intake, input, draft, out) {
+        match take_skipped(intake, input, taker, out) {
             Ok(()) => {}
             Err(fault) => return Err(fault),
         }
@@ -152,37 +115,37 @@ fn take_paths<I: Source>(
 }
 
 /// Takes rows and skipped paths up to the end.
-pub fn take_rows<I: Source>(
+pub fn take_rows<I: Source, T: Taker>(
     intake: &mut LongIntake,
     input: &mut I,
-    draft: &mut Draft,
+    taker: &mut T,
     name: &mut Vec<u8>,
     out: &mut Vec<u8>,
 ) -> Result<(), TextFault>
-    requires empty { draft.old ≡ record { rows = []; hits = []; skipped = [] } }
-    ensures taken { TakesRows draft.new intake.old intake.new (I.left input.old) (I.left input.new) (I.faults input.old)
-        (I.faults input.new) result }
+    ensures taken { (t : Offered) × OnOk result (T.keeps taker.old t taker.new) × TakesRows t intake.old intake.new (I.left input.old)
+        (I.left input.new) (I.faults input.old) (I.faults input.new) result }
     ensures reported { IsReported (I.faults input.old) (I.faults input.new) result }
 {
+    taker.begin(intake.bytes());
     loop {
         match intake.goes_on(input) {
             Ok(true) => {}
             Ok(false) => return Ok(()),
             Err(fault) => return Err(fault),
         }
-        match next_heading(intake, input, draft.last_word(), name) {
+        match next_heading(intake, input, taker.last_word(), name) {
             Ok(Prefix::Word(many)) => {
-                match take_row(intake, input, name.as_slice(), many, draft, out) {
+                match take_row(intake, input, name.as_slice(), many, taker, out) {
                     Ok(()) => {}
                     Err(fault) => return Err(fault),
                 }
             }
             Ok(Prefix::Skipped) => {
-                match add_skipped(draft, name) {
+                match taker.skip(name) {
                     Ok(()) => {}
                     Err(_) => return Err(TextFault::Memory),
                 }
-                return take_paths(intake, input, draft, out);
+                return take_paths(intake, input, taker, out);
             }
             Err(fault) => return Err(fault),
         }

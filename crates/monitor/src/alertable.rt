@@ -77,6 +77,19 @@ pub fn alert_wait_until<U: Uses, T: Fn(&U::Value) -> bool, R: Wait>(
 /// returns `None`.
 ///
 /// Blocks as `acquire` and `alert_wait` do.
+///
+/// ```rust
+/// let answer = alert_locked_when::<SumUses, NoChange, u64, _, _, R>(
+///     rt,
+///     pkg,
+///     me,
+///     MutexId(0),
+///     CondId(0),
+///     &|_sum: &u64| accepts,
+///     |sum: &mut u64| *sum,
+/// );
+/// answer.is_some()
+/// ```
 pub fn alert_locked_when<
     U: Uses,
     C: Change<U>,

@@ -17,9 +17,11 @@ use Rattle.nub_rule.specs.declared.view.Part.{Part}
 use Rattle.nub_rule.specs.Ends.{first_known, Leaves}
 use Rattle.nub_rule.specs.Items.{Each, HistoryItem, Shared, places_from}
 use Rattle.nub_rule.specs.Known.{Known, Shape}
-use Rattle.nub.specs.Ended.{IsFirst, IsWhole, KeepsLocks}
+use Rattle.nub.specs.Ended.{IsFirst, IsWhole, KeepsLocks, KeepsStints}
 use Rattle.nub.specs.History.{AreStored, entries_from, entries_of}
 use Rattle.nub.specs.Rest.{HasStored}
+use Rattle.nub_rule.proofs.Stinting.{lead-in-turn}
+use Rattle.nub_rule.proofs.Takers.{takers-are}
 
 pub none_there : {A : Type 0} (n m : ℕ) → m < n → get_elem? (replicate {A = Opt A} n None) m ≡ some None
 none_there zero m l = absurd (omega arith)
@@ -124,6 +126,20 @@ module _ {T H W : Type 0} where
 
   pub keeps_locks : (layout : Layout) (holds : List T → List H → Type 0) (threads : List (Known T H W)) (values : List T) → Leaves layout holds (map (λ t. t.part) threads) values → KeepsLocks holds threads values
   keeps_locks layout holds threads values l = record { shares = l.shares; each_share = shares-are threads l.shares l.each_share l.shared; kept = l.kept }
+
+  pub keeps_stints : (layout : Layout) (holds : List T → List H → Type 0) (threads : List (Known T H W)) (values : List T) (l : Leaves layout holds (map (λ t. t.part) threads) values) → KeepsStints holds threads values l.log
+  keeps_stints layout holds threads values l = let k = l.stinted in record {
+    first = k.first;
+    first_shares = k.first_shares;
+    shares = l.shares;
+    stints = k.stints;
+    each_share = shares-are threads l.shares l.each_share l.shared;
+    lead = k.lead;
+    in_turn = λ m x y here there. lead-in-turn holds m k.first k.first_shares k.stints values l.shares x y k.lead here there;
+    own = λ n t e. k.own n t.part (at_map (λ t. t.part) threads n t e);
+    gives = k.gives;
+    takes = λ m. takers-are layout.version l.log (l.spec, l.run, l.nothing_held, l.nothing_begun, l.over) m ∙ k.gives m;
+  }
 
   -- each event of the history is by one of the threads
   by-threads : (layout : Layout) (threads : List (Known T H W)) (log : List Event) → HistoryItem layout log (map (λ t. t.part) threads) → All (λ e. e.thread.0 < length threads) log

@@ -10,6 +10,8 @@ use Rattle.larch_actions.specs.Layout.{HasNames}
 use Rattle.larch_actions.specs.Actions.{IsClosed, StartsWith, by_thread}
 use Rattle.nub_rule.specs.Known.{Known, Shape}
 use Rattle.nub_rule.specs.Items.{Each}
+use Rattle.nub_rule.specs.declared.view.Stint.{Stint}
+use Rattle.nub_rule.specs.Stints.{AreInTurn, StintsLead, givers, stinters, stints_at, stints_by, takers}
 use Rattle.nub.specs.Rest.{AtRest}
 
 -- the layout, the last released value of each mutex, the whole history of a traced run, and each
@@ -52,6 +54,22 @@ module _ {T H W : Type 0} where
     pub shares : List H
     pub each_share : map (λ t. t.share) threads ≡ map (λ s. Some s) shares
     pub kept : holds values shares
+
+  -- values along the history: the stints of all threads in one order, which lead from first values
+  -- and shares to the last, so that each got what the last stint with its mutex left, or the first
+  -- value. The threads that give a mutex back in the history, and those that take it, are those of
+  -- its stints, in this order
+  pub record KeepsStints (holds : List T → List H → Type 0) (threads : List (Known T H W)) (values : List T) (h : List Event) : Type 0 where
+    pub first : List T
+    pub first_shares : List H
+    pub shares : List H
+    pub stints : List (Stint T H)
+    pub each_share : map (λ t. t.share) threads ≡ map (λ s. Some s) shares
+    pub lead : StintsLead holds first first_shares stints values shares
+    pub in_turn : (m : ℕ) (x y : T) → get_elem? first m ≡ some x → get_elem? values m ≡ some y → AreInTurn x (stints_at m stints) y
+    pub own : Each (λ n t. stints_by n stints ≡ t.stints) threads
+    pub gives : (m : ℕ) → givers m h ≡ stinters m stints
+    pub takes : (m : ℕ) → takers m h ≡ stinters m stints
 
   -- the list is the whole history of the threads: it is legal and closed, each event is by one of
   -- them and has names of the layout, each thread has seen a beginning of it, one has seen all of

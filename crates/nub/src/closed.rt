@@ -53,6 +53,10 @@ impl<U: Uses> Closed<U> {
     }
 
     /// Returns the values of the mutexes themselves, as they were last released.
+    ///
+    /// ```rust
+    /// let mut rings = closed.into_values();
+    /// ```
     pub fn into_values(self) -> Vec<U::Value>
         ensures { result.items ≡ self.values }
     {

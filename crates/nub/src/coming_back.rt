@@ -41,6 +41,14 @@ fn is_one(over: usize, never: usize) -> bool
 
 /// Whether all threads of a package of `open_forked` are here, each once: it has ended, or was never begun. Then `close_forked` may close
 /// the package.
+///
+/// ```rust
+/// if !are_all_back(&pkg, &ended, &unborn) {
+///     drop(pkg);
+///     return Err(Fail::from("a thread was lost"));
+/// }
+/// Ok(close_forked(pkg, ended, unborn)?)
+/// ```
 pub fn are_all_back<U: Uses>(p: &Package<U>, ended: &Vec<Ended<U>>, unborn: &Vec<Unborn<U>>) -> bool
     ensures yes { result ≡ true → AreAll p.now.layout.threads (ended.now.items ++ unborn.now.items) }
     ensures no { result ≡ false → ¬ AreAll p.now.layout.threads (ended.now.items ++ unborn.now.items) }

@@ -6,7 +6,7 @@ ghost use Rattle.larch_actions.specs.declared.event.Version.TheVariants.{One, Tw
 ghost use Rattle.nub_rule.specs.Ends.{firsts};
 ghost use Rattle.nub_rule.specs.Forks.{AreAll, IsUnborn, in_order};
 ghost use Rattle.nub_rule.specs.Items.{Each};
-ghost use Rattle.nub.specs.Ended.{IsFirst, IsDone, KeepsLocks, IsWhole, trace_of};
+ghost use Rattle.nub.specs.Ended.{IsFirst, IsDone, KeepsLocks, KeepsStints, IsWhole, trace_of};
 ghost use Rattle.nub.specs.Forks.{IsLeft, IsRight};
 ghost use Rattle.nub.specs.History.{AreStored};
 
@@ -110,6 +110,8 @@ pub fn close_package<U: Uses>(
     ensures values { IfOk result (λ c. (length c.values ≡ p.layout.mutexes) × KeepsLocks (U.holds p.world) threads.items c.values) }
     ensures untraced { p.traced ≡ false → (is_ok result ≡ true) × IfOk result (λ c. c.trace ≡ None) }
     ensures traced { p.traced ≡ true → IfOk result (λ c. (h : List Event) × (c.trace ≡ Some h) × IsWhole p.layout threads.items h) }
+    ensures stints { p.traced ≡ true → IfOk result (λ c. (h : List Event) × (c.trace ≡ Some h)
+        × KeepsStints (U.holds p.world) threads.items c.values h) }
 {
     let alloc = *threads.allocator();
     let layout = p.layout();
@@ -157,6 +159,8 @@ pub fn close_forked<U: Uses>(
     ensures values { IfOk result (λ c. (length c.values ≡ p.layout.mutexes) × KeepsLocks (U.holds p.world) c.threads c.values) }
     ensures untraced { p.traced ≡ false → (is_ok result ≡ true) × IfOk result (λ c. c.trace ≡ None) }
     ensures traced { p.traced ≡ true → IfOk result (λ c. (h : List Event) × (c.trace ≡ Some h) × IsWhole p.layout c.threads h) }
+    ensures stints { p.traced ≡ true → IfOk result (λ c. (h : List Event) × (c.trace ≡ Some h)
+        × KeepsStints (U.holds p.world) c.threads c.values h) }
 {
     let alloc = *ended.allocator();
     let layout = p.layout();

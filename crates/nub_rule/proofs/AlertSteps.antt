@@ -36,6 +36,7 @@ use Rattle.nub_rule.proofs.Frames.{lives-frame, lives-stay, other, ready-stay}
 use Rattle.nub_rule.proofs.Lines.{some_none, distinct-tail_of, less-without, lines-leave, lines-same, lines-stage, mem-tail_of, without-absent, without-append}
 use Rattle.nub_rule.proofs.Beside.{idle, still}
 use Rattle.nub_rule.proofs.Beginning.{waits-stay, begun-frame, begun-same, counted-stands}
+use Rattle.nub_rule.proofs.Stinting.{GivesNone, stinted-event}
 use Rattle.nub_rule.proofs.Owing.{owes-frame, owes-leave, owes-leave-tested, owes-stage}
 use Rattle.nub_rule.proofs.QueueSteps.{absent-before, length-gates, requeues}
 use Rattle.nub_rule.proofs.Showing.{shows-alert}
@@ -123,11 +124,11 @@ module _ {T H : Type 0} (words : List ℕ) (x : ℕ) (all : List (Part T H)) (n 
 
 module _ {T H W : Type 0} (l : Layout) (traced : Bool) (w : W) (begin : W → ℕ → H) (holds : W → List T → List H → Type 0) where
   -- an event by which the alert word of the thread t becomes x
-  alert-marks : (e : Event) (n t x : ℕ) (b : Bool) (p : Part T H) (saw : Bool) (words : List ℕ) (homes : List (Option (Slot T))) (all : List (Part T H)) (c : Core l traced w holds words homes all) → get_elem? all n ≡ some p → t < most_threads → e.thread.0 ≡ n → IsNamed l e.action → MayRecord traced p.life p.pen
+  alert-marks : (e : Event) (n t x : ℕ) (b : Bool) (p : Part T H) (saw : Bool) (words : List ℕ) (homes : List (Option (Slot T))) (all : List (Part T H)) (c : Core l traced w holds words homes all) → get_elem? all n ≡ some p → t < most_threads → e.thread.0 ≡ n → IsNamed l e.action → GivesNone e.action → MayRecord traced p.life p.pen
       → Acts c.spec e (record c.spec { alerts = put c.spec.alerts t b }) → Says x b
       → ((q : Part T H) → q.alerted ≡ saw → get_or (set words (alert_at t) x) (alert_at t) 0 ≡ x → AlertSeen (set words (alert_at t) x) (set all n q))
       → Marked l traced w holds e n (alert_at t) x p (λ z. record (recorded p z e) { alerted = saw }) words homes all
-  alert-marks e n t x b p saw words homes all c at low by named may acts says seen = let i = alert_at t in let wide = c.sizes.words_wide in
+  alert-marks e n t x b p saw words homes all c at low by named none_given may acts says seen = let i = alert_at t in let wide = c.sizes.words_wide in
       let now : get_or (set words i x) i 0 ≡ x = get_or-set_same words i x 0 (omega arith) in
       let after : List Event → Part T H = λ z. record (recorded p z e) { alerted = saw } in
       marks l traced w holds e n i x p after words homes all c (record c.spec { alerts = put c.spec.alerts t b }) at by named may (alert-aside t low)
@@ -138,6 +139,7 @@ module _ {T H W : Type 0} (l : Layout) (traced : Bool) (w : W) (begin : W → �
       (λ z. lives-frame all n p (after z) at words (set words i x) c.sizes.few (lives-stay words i x (λ k lo y. omega arith)) refl c.lives)
       (λ z. owes-frame c.queue words (set words i x) all n p (after z) at (λ k lo. other words i (bit_at k) x (λ y. omega arith)) refl refl refl c.owes)
       (λ z. begun-same words (set words i x) all n p (after z) at (waits-stay words i x (λ k lo y. omega arith)) refl refl refl c.begun)
+      (λ z. stinted-event all n p (after z) at e none_given refl (λ m. refl) c.stinted)
 
   or_alert_at : (slots id t : ℕ) (me : Me (Slot T) (View T H W)) → t < most_threads → t < l.threads → me.0.kind ≡ Member → me.0.part.wait ≡ None → MayRecord traced me.0.part.life me.0.part.pen
       → Allows (IsKept l traced w begin holds) slots id me (alert_at t) (λ x. bit_or x 1) (or_alert_records (step slots (alert_at t) 1 0 none) me)
@@ -150,7 +152,7 @@ module _ {T H W : Type 0} (l : Layout) (traced : Bool) (w : W) (begin : W → �
       let r : ℕ = get_or words i 0 in
       let idle_now : c.spec.pending n ≡ Nothing = c.shows.pendings.pends n p at ∙ ap pending_of out in
       let up : bit_or r 1 ≡ 1 = one-in r (zero-one r (c.spec.alerts t) (c.shows.alerts t low)) in
-      let m = alert-marks e n t 1 true p p.alerted words homes all c at low refl named may (record { live = c.shows.lives n p at ∙ may.0; order = idle_now; requires_met = tt; when_met = tt; choice_met = tt }, refl) (inr (refl, refl)) (λ q ea one. alert-seen-set words 1 all n p q at t c.sizes.few low one ea c.alert_seen) in
+      let m = alert-marks e n t 1 true p p.alerted words homes all c at low refl named (λ m. refl) may (record { live = c.shows.lives n p at ∙ may.0; order = idle_now; requires_met = tt; when_met = tt; choice_met = tt }, refl) (inr (refl, refl)) (λ q ea one. alert-seen-set words 1 all n p q at t c.sizes.few low one ea c.alert_seen) in
       (m.0, keeps, tt, subst (λ (y : ℕ). Core l traced w holds (set words i y) homes (set all n m.0)) (sym up) m.1, (m.2, refl)))
 
   -- the same at a word that is this place
@@ -170,7 +172,7 @@ module _ {T H W : Type 0} (l : Layout) (traced : Bool) (w : W) (begin : W → �
       let e = test_alert_event n (eqb r 1) in
       let says = c.shows.alerts n low in
       let idle_now : c.spec.pending n ≡ Nothing = c.shows.pendings.pends n p at ∙ ap pending_of out in
-      let m = alert-marks e n n 0 false p false words homes all c at low refl tt may (record { live = c.shows.lives n p at ∙ may.0; order = idle_now; requires_met = tt; when_met = tt; choice_met = answer-is r (c.spec.alerts n) says }, refl) (inl (refl, refl)) (λ q ea zero. alert-seen-clear words 0 all n p q at c.sizes.few ea c.alert_seen) in
+      let m = alert-marks e n n 0 false p false words homes all c at low refl tt (λ m. refl) may (record { live = c.shows.lives n p at ∙ may.0; order = idle_now; requires_met = tt; when_met = tt; choice_met = answer-is r (c.spec.alerts n) says }, refl) (inl (refl, refl)) (λ q ea zero. alert-seen-clear words 0 all n p q at c.sizes.few ea c.alert_seen) in
       (m.0, keeps, tt, m.1, (zero-one r (c.spec.alerts n) says, c.alert_seen n p at, m.2, refl)))
 
   -- the same at a word that is this place
@@ -190,7 +192,7 @@ module _ {T H W : Type 0} (l : Layout) (traced : Bool) (w : W) (begin : W → �
       let r : ℕ = get_or words i 0 in
       let one : r ≡ 1 = c.alert_seen n p at seen in
       let idle_now : c.spec.pending n ≡ Nothing = c.shows.pendings.pends n p at ∙ ap pending_of out in
-      let m = alert-marks e n n 0 false p false words homes all c at low refl named may (record { live = c.shows.lives n p at ∙ may.0; order = idle_now; requires_met = tt; when_met = said-one r (c.spec.alerts n) (c.shows.alerts n low) one; choice_met = tt }, refl) (inl (refl, refl)) (λ q ea zero. alert-seen-clear words 0 all n p q at c.sizes.few ea c.alert_seen) in
+      let m = alert-marks e n n 0 false p false words homes all c at low refl named (λ m. refl) may (record { live = c.shows.lives n p at ∙ may.0; order = idle_now; requires_met = tt; when_met = said-one r (c.spec.alerts n) (c.shows.alerts n low) one; choice_met = tt }, refl) (inl (refl, refl)) (λ q ea zero. alert-seen-clear words 0 all n p q at c.sizes.few ea c.alert_seen) in
       (m.0, keeps, tt, subst (λ (y : ℕ). Core l traced w holds (set words i y) homes (set all n m.0)) (sym (one-out r s one)) m.1, (one, m.2, refl)))
 
   -- the same at a word that is this place, with this mask
@@ -202,13 +204,13 @@ module _ {T H W : Type 0} (l : Layout) (traced : Bool) (w : W) (begin : W → �
   sees-alert : (n i : ℕ) (p : Part T H) (words : List ℕ) (homes : List (Option (Slot T))) (all : List (Part T H)) → get_elem? all n ≡ some p → (st : Opt Stand) → p.stand ≡ st → (c : Core l traced w holds words homes all) → get_or words (alert_at n) 0 ≡ 1
       → Core l traced w holds (set words i (get_or words i 0)) homes (set all n (record p { alerted = true; stand = alerted_stand st }))
   sees-alert n i p words homes all at None stood c one = let q : Part T H = record p { alerted = true; stand = None } in
-      still l traced w holds words homes all i n p q at record { version = refl; life = refl; seen = refl; mine = refl; places = refl; held = refl; share = refl } refl refl refl refl refl refl refl c
+      still l traced w holds words homes all i n p q at record { version = refl; life = refl; seen = refl; mine = refl; places = refl; held = refl; share = refl; stints = refl; closing = λ m. refl } refl refl refl refl refl refl refl c
       (lines-same (λ o. c.owed o ++ c.queue o) (λ o. c.owed o ++ c.queue o) words words all n p q at c.sizes.few (λ t lo. refl) (λ o. refl) (sym stood) c.lines)
       (alert-seen-own words 0 all n p q at one c.alert_seen)
       (owes-frame c.queue words words all n p q at (λ k lo. refl) (sym stood) refl refl c.owes)
       (begun-same words words all n p q at (λ k lo. refl) refl refl (sym stood) c.begun)
   sees-alert n i p words homes all at (Some s) stood c one = let g = alerted_stage s.stage in let r : Stand = record s { stage = g } in let q : Part T H = record p { alerted = true; stand = Some r } in
-      still l traced w holds words homes all i n p q at record { version = refl; life = refl; seen = refl; mine = refl; places = refl; held = refl; share = refl } refl refl refl refl refl refl refl c
+      still l traced w holds words homes all i n p q at record { version = refl; life = refl; seen = refl; mine = refl; places = refl; held = refl; share = refl; stints = refl; closing = λ m. refl } refl refl refl refl refl refl refl c
       (lines-stage (λ o. c.owed o ++ c.queue o) (λ o. c.owed o ++ c.queue o) words words all n p q at c.sizes.few s r (λ t lo. refl) (λ o. refl) stood refl refl (λ f. (c.lines.stands n p at).found s stood (found-before s.stage f)) c.lines)
       (alert-seen-own words 0 all n p q at one c.alert_seen)
       (owes-stage c.queue words words all n p q at s r (λ k lo. refl) stood refl refl (λ u _. untested-still s.stage u) (λ a. absurd (awake-then s.stage a)) refl refl c.owes)
@@ -258,7 +260,7 @@ module _ {T H W : Type 0} (l : Layout) (traced : Bool) (w : W) (begin : W → �
         q,
         keeps,
         tt,
-        requeues l traced w begin holds n o p q ys (c.owed o) words homes all at low here record { version = refl; life = refl; seen = refl; mine = refl; places = refl; held = refl; share = refl } refl refl mine.2 (λ e. ap (less n) e) refl refl refl c
+        requeues l traced w begin holds n o p q ys (c.owed o) words homes all at low here record { version = refl; life = refl; seen = refl; mine = refl; places = refl; held = refl; share = refl; stints = refl; closing = λ m. refl } refl refl mine.2 (λ e. ap (less n) e) refl refl refl c
             (lines-leave line line' words words' all n p q at c.sizes.few o (ready-stay words (length_at o) (length ys) (λ k up z. omega arith)) is (λ k ne i. put-else c.owed o k (c.owed o) ne i ++ put-else c.queue o k ys ne i) (mem-tail_of n (c.owed o) (c.queue o) queued) refl c.lines)
             owes
             refl

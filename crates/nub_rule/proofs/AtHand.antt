@@ -11,12 +11,12 @@ use Rattle.nub_rule.specs.declared.package.Entry.{Entry}
 use Rattle.nub_rule.specs.declared.rule.Slot.{Slot}
 use Rattle.nub_rule.specs.declared.rule.Slot.TheVariants.{Value, Queue}
 use Rattle.nub_rule.specs.declared.view.Part.{Part}
+use Rattle.nub_rule.specs.declared.view.Stint.{Stint}
 use Rattle.nub_rule.specs.declared.view.View.{View}
 use Rattle.nub_rule.specs.Items.{queue_of}
-use Rattle.nub_rule.specs.Parts.{Got}
-use Rattle.nub_rule.specs.Known.{Known, known_as, values_of, value_in, IsThread, Makes, PicksShare}
+use Rattle.nub_rule.specs.Known.{EntersStint, Holds, IsIn, Known, known_as, values_of, value_in, IsThread, Makes, PicksShare}
 use Rattle.nub_rule.specs.Places.{most_threads, queue_at, value_at}
-use Rattle.nub_rule.specs.Plays.{Sat, with_part, recorded, Grows}
+use Rattle.nub_rule.specs.Plays.{Entered, Sat, with_part, recorded, Grows, stint}
 use Rattle.nub_rule.specs.Slots.{find, IsDistinct, Below, past_first}
 use Rattle.nub_rule.proofs.Each.{at_within}
 use Rattle.nub_rule.proofs.Handling.{Refilled, refilled, values-same, values-set, value-found, hands-freed, hands-queue, hands-same, hands-value}
@@ -167,12 +167,17 @@ module _ {T H W : Type 0} where
       makes_as (e a.number a.queue) u z z' n es lo me me' (f q) ds a v ez w.1 (subst (λ (t : ℕ × Event). Grows t.0 me.0.part u t.1) (λ j. (num j, is j)) w.0)
       (seen q ∙ (λ j. (me.0.part.seen ++ u) ++ is j ∷ [])) (mine q ∙ (λ j. me.0.part.mine ++ is j ∷ [])) (places q)
 
-  -- the share that was picked with a value that was given back
-  pub freed_share : (after : W → ℕ → ℕ → T → T → H → H) (m : ℕ) (share : Opt H) (z z' : TableId) (n : ℕ) (es : List Entry) (lo : Bool) {nx : ℕ} (me front me' : Sat T H W) (q : Part T H) (ds : List (ℕ × Slot T)) (a : Known T H W) → known_as z n me es lo nx ≡ a → front.0 ≡ me.0 → me.0.number ≡ n
-      → ((y : T) → find (value_at m) me.1 ≡ Some (Value (Some y)) → front.1 ≡ (value_at m, Value (Some y)) ∷ rest front.1) → me' ≡ (with_part front.0 q, ds) → q.share ≡ share
-      → ((w : W) (s : H) (x y : T) → front.0.world ≡ Some w → front.0.part.share ≡ Some s → Got front.0.part m x → front.1 ≡ (value_at m, Value (Some y)) ∷ rest front.1 → share ≡ Some (after w m front.0.number x y s)) → PicksShare after m a (known_as z' n me' es lo nx)
-  freed_share after m share z z' n es lo me front me' q ds a v same num first em eq records w s x y world had got there = ap (λ t. t.0.part.share) em ∙ (eq ∙ (records w s x y (ap (λ u. u.world) same ∙ (ap (λ k. k.world) v ∙ world)) (ap (λ u. u.part.share) same ∙ (ap (λ k. k.share) v ∙ had))
-      (ap (λ u. get_elem? u.part.held m) same ∙ (ap (λ k. get_elem? k.held m) v ∙ got)) (first y (value_is m (Some y) z n es lo me a v there)) ∙ (λ j. Some (after w m ((ap (λ u. u.number) same ∙ (num ∙ ap (λ k. k.number) v)) j) x y s))))
+  -- the share that was picked with a value that was given back, and the stint that was entered
+  pub freed_stint : (after : W → ℕ → ℕ → T → T → H → H) (m : ℕ) (share : Opt H) (stints : List (Stint T H)) (z z' : TableId) (n : ℕ) (es : List Entry) (lo : Bool) {nx : ℕ} (me front me' : Sat T H W) (q : Part T H) (ds : List (ℕ × Slot T)) (a : Known T H W) → known_as z n me es lo nx ≡ a → front.0 ≡ me.0 → me.0.number ≡ n
+      → ((y : T) → find (value_at m) me.1 ≡ Some (Value (Some y)) → front.1 ≡ (value_at m, Value (Some y)) ∷ rest front.1) → me' ≡ (with_part front.0 q, ds) → q.share ≡ share → q.stints ≡ stints
+      → Entered after m front share stints → PicksShare after m a (known_as z' n me' es lo nx) × EntersStint after m a (known_as z' n me' es lo nx)
+  freed_stint after m share stints z z' n es lo me front me' q ds a v same num first em eq ek records =
+      let number : front.0.number ≡ a.number = ap (λ u. u.number) same ∙ (num ∙ ap (λ k. k.number) v) in
+      let says = λ (w : W) (s : H) (x y : T) (world : a.world ≡ Some w) (had : a.share ≡ Some s) (got : Holds a m x) (there : IsIn a m y). records w s x y (ap (λ u. u.world) same ∙ (ap (λ k. k.world) v ∙ world)) (ap (λ u. u.part.share) same ∙ (ap (λ k. k.share) v ∙ had))
+      (ap (λ u. get_elem? u.part.held m) same ∙ (ap (λ k. get_elem? k.held m) v ∙ got)) (first y (value_is m (Some y) z n es lo me a v there)) in (
+        (λ w s x y world had got there. ap (λ t. t.0.part.share) em ∙ (eq ∙ ((says w s x y world had got there).0 ∙ (λ j. Some (after w m (number j) x y s))))),
+        (λ w s x y world had got there. ap (λ t. t.0.part.stints) em ∙ (ek ∙ ((says w s x y world had got there).1 ∙ (λ j. (ap (λ u. u.part.stints) same ∙ ap (λ k. k.stints) v) j ++ stint after w m (number j) x y s ∷ [])))),
+      )
 
 module _ {A : Type 0} where
   pub set_at : (xs : List A) (i : ℕ) (x y : A) → get_elem? xs i ≡ some y → get_elem? (set xs i x) i ≡ some x

@@ -34,6 +34,7 @@ use Rattle.nub_rule.proofs.Lines.{some_none, not_true, both_ways, mem-tail_of, s
 use Rattle.nub_rule.proofs.Beside.{beside}
 use Rattle.nub_rule.proofs.Owing.{owes-frame}
 use Rattle.nub_rule.proofs.Beginning.{raisers-few, raisers-some, begun-same, begun-raise, begun-lower, counts-some}
+use Rattle.nub_rule.proofs.Stinting.{GivesNone, stinted-event}
 use Rattle.nub_rule.proofs.Marking.{Aside, Learns, marks}
 
 -- a step on the begun waits of a condition is aside of bits, queues, ready words and the pen
@@ -76,7 +77,7 @@ module _ {T H W : Type 0} (l : Layout) (traced : Bool) (w : W) (begin : W → �
   recounts : (n c x : ℕ) (p : Part T H) (raised calling : Opt ℕ) (words : List ℕ) (homes : List (Option (Slot T))) (all : List (Part T H)) → get_elem? all n ≡ some p → c < 64 → (k : Core l traced w holds words homes all)
       → BegunWaits (set words (waits_at (cond_object c)) x) (set all n (record p { raised = raised; calling = calling })) → Core l traced w holds (set words (waits_at (cond_object c)) x) homes (set all n (record p { raised = raised; calling = calling }))
   recounts n c x p raised calling words homes all at low k begun = let i : ℕ = waits_at (cond_object c) in let q : Part T H = record p { raised = raised; calling = calling } in let words' : List ℕ = set words i x in
-      beside l traced w holds words words' homes homes all n p q at (length-set words i x) refl (bits-stay words i x (λ j up z. omega arith)) (lives-stay words i x (λ j up z. omega arith)) (λ m. refl) record { version = refl; life = refl; seen = refl; mine = refl; places = refl; held = refl; share = refl } k.spinner k.writer k.queue k.owed k
+      beside l traced w holds words words' homes homes all n p q at (length-set words i x) refl (bits-stay words i x (λ j up z. omega arith)) (lives-stay words i x (λ j up z. omega arith)) (λ m. refl) record { version = refl; life = refl; seen = refl; mine = refl; places = refl; held = refl; share = refl; stints = refl; closing = λ m. refl } k.spinner k.writer k.queue k.owed k
       (spins-frame all n p q at k.spinner k.queue k.owed words words' homes homes (spins-stay words i x (λ j up z. omega arith) (λ j up z. omega arith)) (λ o lo. refl) refl refl refl k.spins)
       (lines-frame all n p q at (λ o. k.owed o ++ k.queue o) words words' k.sizes.few (ready-stay words i x (λ j up z. omega arith)) refl k.lines)
       (shows-frame all n p q at k.spinner k.queue k.owner k.spec words words' (shown-stay words i x (λ j up z. omega arith) (λ j up z. omega arith) (λ j up z. omega arith)) refl refl refl refl refl k.shows)
@@ -153,10 +154,10 @@ module _ {T H W : Type 0} (l : Layout) (traced : Bool) (w : W) (begin : W → �
     nobody-counts : (j : ℕ) (r : Part T H) → get_elem? all j ≡ some r → (i : ℕ) → counts_in r.wait c i ≡ false
     nobody-counts j r at i = not_true (counts_in r.wait c i) (λ is. let u = counts-some r.wait c i is in nobody-raised j r at ((k.begun.covered j r at).member u.0 i u.1 u.3 ∙ ap (λ (z : ℕ). Some z) u.2))
 
-  read_waits_at : (action : ℕ → List ℕ → Action) (f : ℕ → Bool) (slots id c : ℕ) (me : Me (Slot T) (View T H W)) → c < 64 → me.0.kind ≡ Member → me.0.part.wait ≡ None → MayRecord traced me.0.part.life me.0.part.pen → ((t : ℕ) → f t ≡ false)
+  read_waits_at : (action : ℕ → List ℕ → Action) (f : ℕ → Bool) (slots id c : ℕ) (me : Me (Slot T) (View T H W)) → c < 64 → me.0.kind ≡ Member → me.0.part.wait ≡ None → MayRecord traced me.0.part.life me.0.part.pen → GivesNone (action c []) → ((t : ℕ) → f t ≡ false)
       → ((words : List ℕ) (homes : List (Option (Slot T))) (all : List (Part T H)) (k : Core l traced w holds words homes all) → get_elem? all me.0.number ≡ some me.0.part → IsNamed l (action c []) × Acts k.spec (event me.0.number (action c [])) (record k.spec { members = put k.spec.members c f }))
       → (i : ℕ) → i ≡ waits_at (cond_object c) → Allows (IsKept l traced w begin holds) slots id me i (λ x. x) (read_waits_records action (step slots i 0 0 none) me)
-  read_waits_at action f slots id c me low kind out may none_f acts i word = let v = me.0 in let n = v.number in let p = v.part in let o : ℕ = waits_at (cond_object c) in let e = event n (action c []) in
+  read_waits_at action f slots id c me low kind out may none_given none_f acts i word = let v = me.0 in let n = v.number in let p = v.part in let o : ℕ = waits_at (cond_object c) in let e = event n (action c []) in
       subst (λ (i : ℕ). Allows (IsKept l traced w begin holds) slots id me i (λ x. x) (read_waits_records action (step slots i 0 0 none) me)) (sym word)
       (member_steps l traced w begin holds slots id o (λ x. x) v me.1
       (λ r q ds. ((r ≡ 0) × Learns e n p (λ z. recorded p z e) q × (ds ≡ me.1)) ⊎ ((r ≢ 0) × (q ≡ record p { calling = Some c }) × (ds ≡ me.1))) (read_waits_records action (step slots o 0 0 none) me) kind
@@ -185,7 +186,8 @@ module _ {T H W : Type 0} (l : Layout) (traced : Bool) (w : W) (begin : W → �
       (λ z. alert-seen-frame all n p (recorded p z e) at words words' k.sizes.few (λ j lo. stay (alert_at j)) refl k.alert_seen)
       (λ z. lives-frame all n p (recorded p z e) at words words' k.sizes.few (λ j lo. stay (life_at j)) refl k.lives)
       (λ z. owes-frame k.queue words words' all n p (recorded p z e) at (λ j lo. stay (bit_at j)) refl refl refl k.owes)
-      (λ z. begun-same words words' all n p (recorded p z e) at (λ j lo. stay (waits_at (cond_object j))) refl refl refl k.begun) in
+      (λ z. begun-same words words' all n p (recorded p z e) at (λ j lo. stay (waits_at (cond_object j))) refl refl refl k.begun)
+      (λ z. stinted-event all n p (recorded p z e) at e none_given refl (λ m. refl) k.stinted) in
       (done.0, keeps, tt, done.1, inl (hit, done.2, refl)))
       (λ miss. (
         record p { calling = Some c },
@@ -197,10 +199,10 @@ module _ {T H W : Type 0} (l : Layout) (traced : Bool) (w : W) (begin : W → �
 
   pub read_waits_broadcast_keeps : (slots id c : ℕ) (me : Me (Slot T) (View T H W)) (i : ℕ) → i ≡ waits_at (cond_object c) → c < 64 → c < l.conditions → me.0.kind ≡ Member → me.0.part.wait ≡ None → MayRecord traced me.0.part.life me.0.part.pen
       → Allows (IsKept l traced w begin holds) slots id me i (λ x. x) (read_waits_records broadcast_action (step slots i 0 0 none) me)
-  read_waits_broadcast_keeps slots id c me i word low named kind out may = read_waits_at broadcast_action (λ _. false) slots id c me low kind out may (λ t. refl)
+  read_waits_broadcast_keeps slots id c me i word low named kind out may = read_waits_at broadcast_action (λ _. false) slots id c me low kind out may (λ m. refl) (λ t. refl)
       (λ words homes all k at. (named, (record { live = k.shows.lives me.0.number me.0.part at ∙ may.0; order = k.shows.pendings.pends me.0.number me.0.part at ∙ ap pending_of out; requires_met = tt; when_met = tt; choice_met = tt }, refl))) i word
 
   pub read_waits_signal_keeps : (slots id c : ℕ) (me : Me (Slot T) (View T H W)) (i : ℕ) → i ≡ waits_at (cond_object c) → c < 64 → c < l.conditions → me.0.kind ≡ Member → me.0.part.wait ≡ None → MayRecord traced me.0.part.life me.0.part.pen
       → Allows (IsKept l traced w begin holds) slots id me i (λ x. x) (read_waits_records signal_action (step slots i 0 0 none) me)
-  read_waits_signal_keeps slots id c me i word low named kind out may = read_waits_at signal_action (in_set (set_of [])) slots id c me low kind out may (λ t. in_set-of t [])
+  read_waits_signal_keeps slots id c me i word low named kind out may = read_waits_at signal_action (in_set (set_of [])) slots id c me low kind out may (λ m. refl) (λ t. in_set-of t [])
       (λ words homes all k at. ((named, λ t is. both_ways (in_set (set_of []) t) is (in_set-of t [])), (record { live = k.shows.lives me.0.number me.0.part at ∙ may.0; order = k.shows.pendings.pends me.0.number me.0.part at ∙ ap pending_of out; requires_met = tt; when_met = tt; choice_met = inl (λ t. in_set-of t []) }, refl))) i word

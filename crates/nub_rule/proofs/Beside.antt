@@ -10,7 +10,9 @@ use Rattle.nub_rule.specs.declared.view.Part.{Part}
 use Rattle.nub_rule.specs.Items.{Spins, Lines, Shows, Pens, AlertSeen, Core}
 use Rattle.nub_rule.specs.Owed.{WakeOwed}
 use Rattle.nub_rule.specs.Begun.{BegunWaits}
+use Rattle.nub_rule.specs.Parts.{closing_on}
 use Rattle.nub_rule.specs.Places.{value_at}
+use Rattle.nub_rule.proofs.Stinting.{stinted-frame}
 use Rattle.nub_rule.proofs.Frames.{SameBits, SameLives, lives-frame, sizes-frame, recorded-frame, owned-frame, spins-frame, shows-frame, pens-frame}
 
 module _ {T H W : Type 0} (l : Layout) (traced : Bool) (w : W) (holds : W → List T → List H → Type 0) where
@@ -23,6 +25,8 @@ module _ {T H W : Type 0} (l : Layout) (traced : Bool) (w : W) (holds : W → Li
     pub places : q.places ≡ p.places
     pub held : q.held ≡ p.held
     pub share : q.share ≡ p.share
+    pub stints : q.stints ≡ p.stints
+    pub closing : (m : ℕ) → closing_on q.wait m ≡ closing_on p.wait m
 
   module _ (words words' : List ℕ) (homes homes' : List (Option (Slot T))) (all : List (Part T H)) (n : ℕ) (p q : Part T H) (at : get_elem? all n ≡ some p) where
     pub beside : length words' ≡ length words → length homes' ≡ length homes → SameBits words words' → SameLives words words' → ((m : ℕ) → get_elem? homes' (value_at m) ≡ get_elem? homes (value_at m)) → Alike p q
@@ -50,6 +54,7 @@ module _ {T H W : Type 0} (l : Layout) (traced : Bool) (w : W) (holds : W → Li
       lives = lives-frame all n p q at words words' c.sizes.few ls a.life c.lives;
       owes = owes;
       begun = begun;
+      stinted = stinted-frame all n p q at c.log (λ m. refl) a.stints a.closing c.stinted;
     }
 
   -- nothing has changed

@@ -1,5 +1,5 @@
 -- The steps on the bit of a mutex keep the rule.
-use Rattle.std.proofs.Common.{get_or-set_same, Bool, true, false, cond, eqb, ◌≡◌, ◌≢◌, ℕ, ◌+◌, ◌<◌, ◌⊎◌, List, [], ◌∷◌, ◌++◌, length, get_or, set, refl, sym, ap, ◌∙◌, subst, inl, inr, ⊎_elim, arith, length-set, length-append, Some, None, eq-eqb, ne_eqb}
+use Rattle.std.proofs.Common.{get_or-set_same, Bool, true, false, cond, eqb, ◌≡◌, ◌≢◌, ℕ, ◌+◌, ◌<◌, ◌⊎◌, List, [], ◌∷◌, ◌++◌, length, get_or, set, refl, sym, ap, ◌∙◌, subst, inl, inr, ⊎_elim, arith, length-set, length-append, append-nil, Some, None, eq-eqb, ne_eqb}
 use Rattle.std.specs.Prelude.{Option as Opt}
 use mathlib.Core.Logic.{dite}
 use mathlib.Core.Option.{Option, some, none, some-injective, some-ne-none}
@@ -27,9 +27,9 @@ use Rattle.nub_rule.specs.declared.view.View.{View}
 use Rattle.nub_rule.specs.declared.view.Kind.TheVariants.{Member}
 use Rattle.nub_rule.specs.Items.{HistoryItem, Shows, Pens, Core}
 use Rattle.nub_rule.specs.Begun.{IsCounted}
-use Rattle.nub_rule.specs.Parts.{is_at, Got, Lacks, MayRecord, waits_on, counts_in, pending_of}
+use Rattle.nub_rule.specs.Parts.{is_at, Got, Lacks, MayRecord, closing_on, waits_on, counts_in, pending_of}
 use Rattle.nub_rule.specs.Places.{bit_at, value_at, queue_at, cond_object}
-use Rattle.nub_rule.specs.Plays.{with_part, recorded, Grows, event, acquire_event, release_event, taken_action, MayTake, try_bit_records, clear_bit_records, Won, Freed, Becomes, MayFree}
+use Rattle.nub_rule.specs.Plays.{with_part, recorded, Grows, event, acquire_event, release_event, taken_action, MayTake, try_bit_records, clear_bit_records, stint, Won, Freed, Becomes, MayFree}
 use Rattle.nub_rule.specs.Rule.{FitsAs, IsKept}
 use Rattle.nub_rule.proofs.Each.{at_within, at_below, put-here, put-else}
 use Rattle.nub_rule.proofs.Idle.{idle-live}
@@ -42,6 +42,8 @@ use Rattle.nub_rule.proofs.Penning.{either_way, pens-event, numbered-by}
 use Rattle.nub_rule.proofs.Beside.{still}
 use Rattle.nub_rule.proofs.Owing.{owes-try, owes-clear}
 use Rattle.nub_rule.proofs.Beginning.{waits-stay, begun-frame, begun-same, counted-over}
+use Rattle.nub_rule.specs.Stints.{givers, stinters}
+use Rattle.nub_rule.proofs.Stinting.{GivesNone, closing-waits, given, givers-other, givers-own, stinted-gives, stinted-takes, taken-gives, with_stint}
 use Rattle.nub_rule.proofs.Handling.{same_slot}
 use Rattle.nub_rule.proofs.Owning.{lacking, owned-take, owned-give}
 use Rattle.nub_rule.proofs.Showing.{shows-wins, shows-clears}
@@ -78,6 +80,9 @@ module _ {T H : Type 0} where
     pub turns : q.turns ≡ without m p.turns
     pub raised : q.raised ≡ p.raised
     pub counted : IsCounted p → IsCounted q
+    pub stints : q.stints ≡ p.stints
+    pub after : (j : ℕ) → closing_on q.wait j ≡ false
+    pub before : (j : ℕ) → j ≢ m → closing_on p.wait j ≡ false
 
   -- the part of a thread whose try of the gate o failed
   abbrev pub loser : Part T H → ℕ → Part T H
@@ -90,9 +95,9 @@ module _ {T H W : Type 0} (l : Layout) (traced : Bool) (w : W) (begin : W → �
 
   -- the thread n takes the bit of m, which nobody has, with its value: what is left to show is what was told, what is shown, and the pen
   pub bit_taken : (n m : ℕ) (p q : Part T H) (x : T) (words : List ℕ) (homes : List (Option (Slot T))) (all : List (Part T H)) → get_elem? all n ≡ some p → m < l.mutexes → (c : Core l traced w holds words homes all) → get_or words (bit_at m) 0 ≡ 0 → get_elem? c.values m ≡ some x → HasTaken m x p q
-      → (log : List Event) (spec : Spec) → IsRun l.version log spec → HistoryItem l log (set all n q) → Shows (set words (bit_at m) 1) c.spinner c.queue (put c.owner m (some n)) spec (set all n q) → Pens traced (length log) (set words (bit_at m) 1) c.writer (set all n q)
+      → (log : List Event) (spec : Spec) → ((j : ℕ) → givers j log ≡ givers j c.log) → IsRun l.version log spec → HistoryItem l log (set all n q) → Shows (set words (bit_at m) 1) c.spinner c.queue (put c.owner m (some n)) spec (set all n q) → Pens traced (length log) (set words (bit_at m) 1) c.writer (set all n q)
       → Core l traced w holds (tried_words m words) (set homes (value_at m) none) (set all n q)
-  bit_taken n m p q x words homes all at inside c hit found t log spec run recorded' shows pens =
+  bit_taken n m p q x words homes all at inside c hit found t log spec same run recorded' shows pens =
       let r : ℕ = get_or words (bit_at m) 0 in let lawful = c.sizes.lawful in let ws = c.sizes.words_wide in
       let words' : List ℕ = set words (bit_at m) 1 in
       let homes' : List (Option (Slot T)) = set homes (value_at m) none in
@@ -120,13 +125,14 @@ module _ {T H W : Type 0} (l : Layout) (traced : Bool) (w : W) (begin : W → �
         lives = lives-frame all n p q at words words' c.sizes.few (lives-stay words (bit_at m) 1 (λ k up z. omega arith)) t.life c.lives;
         owes = owes-try c.queue words words' all n p q at m (λ k lo ne. other words (bit_at m) (bit_at k) 1 (λ z. ne (omega arith))) (λ z. let y = get_or-set_same words (bit_at m) 1 0 (omega arith) in omega arith) t.stand t.cleared t.turns c.owes;
         begun = begun-frame words words' all n p q at (waits-stay words (bit_at m) 1 (λ j lo y. omega arith)) t.raised t.counted c.begun;
+        stinted = stinted-takes all n p q at m log free same t.stints t.after t.before c.stinted;
       }
 
   -- the thread n failed to take the bit of m
   pub bit_missed : (n m : ℕ) (p : Part T H) (words : List ℕ) (homes : List (Option (Slot T))) (all : List (Part T H)) → get_elem? all n ≡ some p → m < 192 → Core l traced w holds words homes all → get_or words (bit_at m) 0 ≢ 0 → Core l traced w holds (tried_words m words) homes (set all n (loser p m))
   bit_missed n m p words homes all at far c miss = let r : ℕ = get_or words (bit_at m) 0 in let q : Part T H = loser p m in
       subst (λ b. Core l traced w holds (set words (bit_at m) (either b 1 r)) homes (set all n q)) (sym (ne_eqb r 0 miss))
-      (still l traced w holds words homes all (bit_at m) n p q at record { version = refl; life = refl; seen = refl; mine = refl; places = refl; held = refl; share = refl } refl refl refl refl refl refl refl c
+      (still l traced w holds words homes all (bit_at m) n p q at record { version = refl; life = refl; seen = refl; mine = refl; places = refl; held = refl; share = refl; stints = refl; closing = λ m. refl } refl refl refl refl refl refl refl c
       (lines-same (λ k. c.owed k ++ c.queue k) (λ k. c.owed k ++ c.queue k) words words all n p q at c.sizes.few (λ t lo. refl) (λ k. refl) refl c.lines)
       (alert-seen-frame all n p q at words words c.sizes.few (λ k lo. refl) refl c.alert_seen)
       (owes-try c.queue words words all n p q at m (λ k lo ne. refl) miss refl refl refl c.owes)
@@ -189,9 +195,9 @@ module _ {T H W : Type 0} (l : Layout) (traced : Bool) (w : W) (begin : W → �
 
   module _ (fits : W → ℕ → T → ℕ → H → Type 0)
       (law : (values : List T) (shares : List H) → holds w values shares → (m : ℕ) (x : T) → get_elem? values m ≡ some x → (t : ℕ) (s : H) → get_elem? shares t ≡ some s → fits w m x t s) where
-    tries_at : (e : Event) (n m : ℕ) (p : Part T H) (cs : List (ℕ × Slot T)) → m < l.mutexes → e.thread.0 ≡ n → p.stand ≡ None → MayRecord traced p.life p.pen → Taking e m n p → Naming e n p
+    tries_at : (e : Event) (n m : ℕ) (p : Part T H) (cs : List (ℕ × Slot T)) → m < l.mutexes → e.thread.0 ≡ n → p.stand ≡ None → MayRecord traced p.life p.pen → Taking e m n p → Naming e n p → GivesNone e.action
         → Steps l traced w begin holds n (bit_at m) (λ x. either (eqb x 0) 1 x) p cs (λ r q ds. ((r ≡ 0) × Wins fits e m n p cs q ds) ⊎ ((r ≢ 0) × (q ≡ record p { failed = m ∷ p.failed; turns = without m p.turns }) × (ds ≡ cs)))
-    tries_at e n m p cs inside by apart may taking naming words homes all c at small = let r : ℕ = get_or words (bit_at m) 0 in let lawful = c.sizes.lawful in let ws = c.sizes.words_wide in let hs = c.sizes.homes_wide in
+    tries_at e n m p cs inside by apart may taking naming none_given words homes all c at small = let r : ℕ = get_or words (bit_at m) 0 in let lawful = c.sizes.lawful in let ws = c.sizes.words_wide in let hs = c.sizes.homes_wide in
         let far : m < 192 = omega arith in let near : m < 64 = omega arith in dite (ℕ_discrete r 0)
         (λ hit.
         let o = c.owned in
@@ -214,7 +220,7 @@ module _ {T H W : Type 0} (l : Layout) (traced : Bool) (w : W) (begin : W → �
           q,
           takes (value_at m) (Value (Some x)),
           o.at_home m inside x found.1 free,
-          bit_taken n m p q x words homes all at inside c hit found.1 record { version = refl; life = refl; held = refl; share = refl; spin = refl; queue = refl; owed = refl; stand = refl; alerted = refl; cleared = refl; turns = refl; raised = refl; counted = λ h. counted-over p q refl h refl apart } (c.log ++ e ∷ []) spec' run recorded'
+          bit_taken n m p q x words homes all at inside c hit found.1 record { version = refl; life = refl; held = refl; share = refl; spin = refl; queue = refl; owed = refl; stand = refl; alerted = refl; cleared = refl; turns = refl; raised = refl; counted = λ h. counted-over p q refl h refl apart; stints = refl; after = λ j. refl; before = λ j ne. closing-waits p.wait j (take.4 j ne) } (c.log ++ e ∷ []) spec' (λ j. givers-other j c.log e (none_given j)) run recorded'
               (shows-wins words words' (shown-stay words (bit_at m) 1 (λ k up z. omega arith) (λ k up z. omega arith) (λ k up z. omega arith)) c.spinner c.queue c.owner c.spec all n p q at refl m take.0 refl refl refl take.4 take.5 take.2 take.3 c.shows)
               (subst (λ (z : ℕ). Pens traced z words' c.writer (set all n q)) (sym more) (pens-event traced (length c.log) words c.writer all n p q at words' (pen-stay words (bit_at m) 1 (λ z. omega arith) (λ z. omega arith)).0 (pen-stay words (bit_at m) 1 (λ z. omega arith) (λ z. omega arith)).1 may refl c.pens)),
           inl (
@@ -248,7 +254,7 @@ module _ {T H W : Type 0} (l : Layout) (traced : Bool) (w : W) (begin : W → �
           λ miss. absurd (miss u.0),
         ))
         (λ (u : (r ≢ 0) × (q ≡ record p { failed = m ∷ p.failed; turns = without m p.turns }) × (ds ≡ me.1)). ((λ hit. absurd (u.0 hit)), λ _ i. (with_part v (u.1 i), u.2 i))) t))
-        (tries_at ev n m p me.1 inside refl apart pen (taking m n p e pen.0 apart may) (λ words homes all c at. taken-named l traced w holds words homes all c n p at m inside p.wait refl))
+        (tries_at ev n m p me.1 inside refl apart pen (taking m n p e pen.0 apart may) (λ words homes all c at. taken-named l traced w holds words homes all c n p at m inside p.wait refl) (taken-gives m p.wait))
 
     -- the same at a word that is this place
     pub try_bit_keeps : (slots id m : ℕ) (e : Event) (me : Me (Slot T) (View T H W)) (i : ℕ) → i ≡ bit_at m → m < l.mutexes → me.0.kind ≡ Member → me.0.part.stand ≡ None → MayTake me.0.number m me.0.part.wait e → MayRecord traced me.0.part.life me.0.part.pen
@@ -256,14 +262,14 @@ module _ {T H W : Type 0} (l : Layout) (traced : Bool) (w : W) (begin : W → �
     try_bit_keeps slots id m e me i word inside kind apart may pen = subst (λ (i : ℕ). Allows (IsKept l traced w begin holds) slots id me i (λ x. either (eqb x 0) 1 x) (try_bit_records fits (step slots i 0 1 none) me)) (sym word) (try_bit_at slots id m e me inside kind apart may pen)
 
   -- what the thread n learns that frees the mutex m
-  abbrev Frees : (H → H) → ℕ → ℕ → Part T H → List (ℕ × Slot T) → Part T H → List (ℕ × Slot T) → Type 0
-  Frees next m n p cs q ds = (s : H) × (p.share ≡ Some s) × (between : List Event) × Grows n p between (release_event n m)
-      × (q ≡ record (recorded p (p.seen ++ between) (release_event n m)) { held = set p.held m None; share = Some (next s); cleared = m ∷ p.cleared }) × (ds ≡ rest cs)
+  abbrev Frees : (H → H) → ℕ → ℕ → T → T → Part T H → List (ℕ × Slot T) → Part T H → List (ℕ × Slot T) → Type 0
+  Frees next m n x y p cs q ds = (s : H) × (p.share ≡ Some s) × (between : List Event) × Grows n p between (release_event n m)
+      × (q ≡ record (recorded p (p.seen ++ between) (release_event n m)) { held = set p.held m None; share = Some (next s); stints = with_stint p n m x y s (next s); cleared = m ∷ p.cleared }) × (ds ≡ rest cs)
 
   module _ (allows : W → ℕ → ℕ → T → T → H → H → Type 0)
       (law : (values : List T) (shares : List H) → holds w values shares → (m : ℕ) (x y : T) → get_elem? values m ≡ some x → (t : ℕ) (s r : H) → get_elem? shares t ≡ some s → allows w m t x y s r → holds w (set values m y) (set shares t r)) where
     frees_at : (n m : ℕ) (p : Part T H) (cs : List (ℕ × Slot T)) (x y : T) (next : H → H) → m < l.mutexes → p.wait ≡ None → p.stand ≡ None → Got p m x → cs ≡ (value_at m, Value (Some y)) ∷ rest cs → MayRecord traced p.life p.pen → ((s : H) → p.share ≡ Some s → allows w m n x y s (next s))
-        → Steps l traced w begin holds n (bit_at m) (λ _. 0) p cs (λ r q ds. (r ≡ 1) × Frees next m n p cs q ds)
+        → Steps l traced w begin holds n (bit_at m) (λ _. 0) p cs (λ r q ds. (r ≡ 1) × Frees next m n x y p cs q ds)
     frees_at n m p cs x y next inside out apart got first may allowed words homes all c at small =
         let lawful = c.sizes.lawful in let ws = c.sizes.words_wide in let hs = c.sizes.homes_wide in
         let far : m < 192 = omega arith in let near : m < 64 = omega arith in
@@ -276,7 +282,7 @@ module _ {T H W : Type 0} (l : Layout) (traced : Bool) (w : W) (begin : W → �
         let here : get_elem? c.values m ≡ some x = o.current n p at m x got in
         let wide : length p.held ≡ 64 = c.sizes.parts_wide n p at in
         let seen = (c.recorded.each n p at).begins in
-        let q : Part T H = record (recorded p (p.seen ++ seen.0) e) { held = set p.held m None; share = Some u; cleared = m ∷ p.cleared } in
+        let q : Part T H = record (recorded p (p.seen ++ seen.0) e) { held = set p.held m None; share = Some u; stints = with_stint p n m x y s u; cleared = m ∷ p.cleared } in
         let longer : q.seen ≡ c.log ++ e ∷ [] = ap (λ (z : List Event). z ++ e ∷ []) (sym seen.1) in
         let placed : q.places ≡ p.places ++ length c.log ∷ [] = ap (λ (z : List Event). p.places ++ length z ∷ []) (sym seen.1) in
         let held : c.spec.holder m ≡ some n = c.shows.holders.holds n p at m own ∙ ap (λ w. cond (waits_on w m) none (some n)) out in
@@ -314,6 +320,8 @@ module _ {T H W : Type 0} (l : Layout) (traced : Bool) (w : W) (begin : W → �
             lives = lives-frame all n p q at words words' c.sizes.few (lives-stay words (bit_at m) 0 (λ k up z. omega arith)) refl c.lives;
             owes = owes-clear c.queue words words' all n p q at m (λ k lo ne. other words (bit_at m) (bit_at k) 0 (λ z. ne (omega arith))) apart refl refl refl c.owes;
             begun = begun-same words words' all n p q at (waits-stay words (bit_at m) 0 (λ j lo y. omega arith)) refl refl refl c.begun;
+            stinted = stinted-gives all n p q at m (c.log ++ e ∷ []) x y s u c.stinted own here mine.2 (law c.values c.shares o.kept m x y here n s u mine.2 (allowed s mine.1)) refl
+                (givers-own m c.log e (eq-eqb m m refl) ∙ ap (λ l. l ++ n ∷ []) (given all n p q at m false c.stinted own (ap (λ w. closing_on w m) out) ∙ append-nil (stinters m c.stinted.stints))) (λ j ne. givers-other j c.log e (ne_eqb m j (λ z. ne (sym z)))) (λ j ne. refl);
           },
           (
             one-by (get_or words (bit_at m) 0) n (c.owner m) (o.bits m inside) own,
@@ -337,12 +345,13 @@ module _ {T H W : Type 0} (l : Layout) (traced : Bool) (w : W) (begin : W → �
     clear_bit_at after slots id m me inside kind out apart pen may st r wide at small = let v = me.0 in let n = v.number in let p = v.part in let x : T = may.0 in let y : T = may.1 in
         let world : v.world ≡ Some w = (subst (FitsAs l.version l.threads r.given w begin r.all r.seat_of id v) kind (r.fits id v at)).world in
         let next = λ (s : H). after w m n x y s in
-        member_steps l traced w begin holds slots id (bit_at m) (λ _. 0) v me.1 (λ r q ds. (r ≡ 1) × Frees next m n p me.1 q ds) (clear_bit_records after (step slots (bit_at m) 0 0 none) me) kind
+        member_steps l traced w begin holds slots id (bit_at m) (λ _. 0) v me.1 (λ r q ds. (r ≡ 1) × Frees next m n x y p me.1 q ds) (clear_bit_records after (step slots (bit_at m) 0 0 none) me) kind
         (λ r q ds t. idle-live p q v.child pen.0 (ap (λ (z : Part T H). z.life) t.1.4))
         (λ r q ds world' t' k is. let t = t'.1 in let same : m ≡ k = omega arith in subst (λ (k : ℕ). Freed after k me r (with_part v q, ds)) same (
           t'.0,
           t.2,
           Some (next t.0),
+          with_stint p n m x y t.0 (next t.0),
           t.3,
           (λ i. (with_part v (t.4 i), t.5 i)),
           λ w' s' x' y' is' share' got' first'.
@@ -353,7 +362,7 @@ module _ {T H W : Type 0} (l : Layout) (traced : Bool) (w : W) (begin : W → �
               let g : Some w ≡ Some w' = sym world ∙ is' in
               let h : w ≡ w' = cc in
               let e = value_same (value_at m) y y' (rest me.1) (sym may.3 ∙ first') in
-              λ j. Some (after (h j) m n (b j) (e j) (d j)),
+              ((λ j. Some (after (h j) m n (b j) (e j) (d j))), λ j. p.stints ++ stint after (h j) m n (b j) (e j) (d j) ∷ []),
         ))
         (frees_at n m p me.1 x y next inside out apart may.2 may.3 pen (λ s is. may.4 w s world is)) st r wide at small
 

@@ -30,6 +30,7 @@ use Rattle.nub_rule.proofs.Spinning.{only_here}
 use Rattle.nub_rule.proofs.Showing.{pendings-put}
 use Rattle.nub_rule.proofs.Conditioning.{conditions-compare, conditions-push, conditions-leave, conditions-pop}
 use Rattle.nub_rule.proofs.Owing.{owes-frame, owes-beside, owes-queued, owes-unqueued}
+use Rattle.nub_rule.proofs.Stinting.{closing-unread, closing-recounted}
 use Rattle.nub_rule.proofs.Beginning.{begun-frame, counted-same, counted-unread, counted-pushed, counted-left}
 use Rattle.nub_rule.proofs.Beside.{beside, idle}
 use Rattle.nub_rule.proofs.QueueSteps.{absent-before, requeues_by, length-shown, length-gates, popped-line}
@@ -88,7 +89,7 @@ module _ {T H W : Type 0} (l : Layout) (traced : Bool) (w : W) (begin : W → �
         keeps,
         tt,
         subst (λ (z : List ℕ). Core l traced w holds z homes (set all n q)) (sym (set-get_or words i 0))
-            (beside l traced w holds words words homes homes all n p q at refl refl (λ m lo. refl) (λ k lo. refl) (λ m. refl) record { version = refl; life = refl; seen = refl; mine = refl; places = refl; held = refl; share = refl } k.spinner k.writer k.queue k.owed k
+            (beside l traced w holds words words homes homes all n p q at refl refl (λ m lo. refl) (λ k lo. refl) (λ m. refl) record { version = refl; life = refl; seen = refl; mine = refl; places = refl; held = refl; share = refl; stints = refl; closing = closing-unread p.wait } k.spinner k.writer k.queue k.owed k
             (spins-frame all n p q at k.spinner k.queue k.owed words words homes homes (λ o lo. (refl, refl)) (λ o lo. refl) refl refl refl k.spins)
             (lines-frame all n p q at (λ o. k.owed o ++ k.queue o) words words k.sizes.few (λ t lo. refl) refl k.lines)
             (shows-wait words words k.spinner k.queue k.owner k.spec all n p q at record { counts = λ m lo. refl; sems = λ m lo. refl; alerts = λ m lo. refl } refl k.queue (λ m. (ap (λ z. waits_on (unread z) m) before ∙ sym (ap (λ z. waits_on z m) before), ap (λ z. open_on (unread z) m) before ∙ sym (ap (λ z. open_on z m) before))) (ap (λ z. pending_of (unread z)) before ∙ sym (ap pending_of before)) k.shows
@@ -125,7 +126,7 @@ module _ {T H W : Type 0} (l : Layout) (traced : Bool) (w : W) (begin : W → �
         q,
         keeps,
         tt,
-        requeues_by l traced w begin holds n o p q ys (k.owed o) words homes all at far here record { version = refl; life = refl; seen = refl; mine = refl; places = refl; held = refl; share = refl } refl refl mine.2 refl refl k
+        requeues_by l traced w begin holds n o p q ys (k.owed o) words homes all at far here record { version = refl; life = refl; seen = refl; mine = refl; places = refl; held = refl; share = refl; stints = refl; closing = closing-unread p.wait } refl refl mine.2 refl refl k
             (lines-push line line' words words' all n p q at k.sizes.few o st (ready-stay words (length_at o) (length ys) (λ j up z. omega arith)) is (λ j ne i. put-else k.owed o j (k.owed o) ne i ++ put-else k.queue o j ys ne i) out refl refl (λ f. f) k.lines)
             (shows-wait words words' k.spinner k.queue k.owner k.spec all n p q at ws refl (put k.queue o ys) (λ m. (ap (λ z. waits_on (unread z) m) before ∙ sym (ap (λ z. waits_on z m) before), ap (λ z. open_on (unread z) m) before ∙ sym (ap (λ z. open_on z m) before))) (ap (λ z. pending_of (unread z)) before ∙ sym (ap pending_of before)) k.shows
             (conditions-push words words' k.spinner k.queue k.spec.members all n p q at k.shows.conditions c me_wait x' ys ws.counts mine.0 (only_here k.spinner k.queue k.owed words homes all n p q at k.spins o here) before on stood (ap unread before) refl refl refl refl now))
@@ -161,7 +162,7 @@ module _ {T H W : Type 0} (l : Layout) (traced : Bool) (w : W) (begin : W → �
         q,
         keeps,
         tt,
-        requeues_by l traced w begin holds n o p q ys zs words homes all at far here record { version = refl; life = refl; seen = refl; mine = refl; places = refl; held = refl; share = refl } refl refl refl refl refl k
+        requeues_by l traced w begin holds n o p q ys zs words homes all at far here record { version = refl; life = refl; seen = refl; mine = refl; places = refl; held = refl; share = refl; stints = refl; closing = λ m. refl } refl refl refl refl refl k
             (lines-same line line' words words' all n p q at k.sizes.few (ready-stay words (length_at o) (length ys) (λ j up z. omega arith)) same refl k.lines)
             (shows-wait words words' k.spinner k.queue k.owner k.spec all n p q at ws refl (put k.queue o ys) (λ m. (refl, refl)) refl k.shows (conditions-pop words words' k.spinner k.queue k.spec.members all n p q at k.shows.conditions c ys ws.counts mine.0 out refl refl refl taken))
             (owes-beside k.queue (put k.queue o ys) words words' all n p q at (length-gates o far words (length ys)) (λ j lo. put-else k.queue o j ys (λ z. omega arith)) refl refl refl k.owes)
@@ -201,7 +202,7 @@ module _ {T H W : Type 0} (l : Layout) (traced : Bool) (w : W) (begin : W → �
         q,
         keeps,
         tt,
-        requeues_by l traced w begin holds n o p q ys (k.owed o) words homes all at far here record { version = refl; life = refl; seen = refl; mine = refl; places = refl; held = refl; share = refl } refl refl mine.2 refl refl k
+        requeues_by l traced w begin holds n o p q ys (k.owed o) words homes all at far here record { version = refl; life = refl; seen = refl; mine = refl; places = refl; held = refl; share = refl; stints = refl; closing = closing-recounted p.count p.wait } refl refl mine.2 refl refl k
             (lines-leave line line' words words' all n p q at k.sizes.few o (ready-stay words (length_at o) (length ys) (λ j up z. omega arith)) is (λ j ne i. put-else k.owed o j (k.owed o) ne i ++ put-else k.queue o j ys ne i) lined refl k.lines)
             (shows-wait words words' k.spinner k.queue k.owner k.spec all n p q at ws refl (put k.queue o ys) (λ m. (ap (λ z. waits_on (recounted p.count z) m) before ∙ sym (ap (λ z. waits_on z m) before), ap (λ z. open_on (recounted p.count z) m) before ∙ sym (ap (λ z. open_on z m) before))) (ap (λ z. pending_of (recounted p.count z)) before ∙ sym (ap pending_of before)) k.shows
             (conditions-leave words words' k.spinner k.queue k.spec.members all n p q at k.shows.conditions c me_wait x' ys ws.counts mine.0 (only_here k.spinner k.queue k.owed words homes all n p q at k.spins o here) before on (ap (recounted p.count) before) on refl refl refl refl mine.1 distinct queued now))

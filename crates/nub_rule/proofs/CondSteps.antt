@@ -21,7 +21,7 @@ use Rattle.nub_rule.specs.declared.view.View.{View}
 use Rattle.nub_rule.specs.declared.view.Wait.{Wait}
 use Rattle.nub_rule.specs.declared.view.Kind.TheVariants.{Member}
 use Rattle.nub_rule.specs.Items.{Core, Holders, Shows, Distinct}
-use Rattle.nub_rule.specs.Parts.{Got, MayRecord, pending_of, waits_on, open_on}
+use Rattle.nub_rule.specs.Parts.{Got, MayRecord, closing_on, pending_of, waits_on, open_on}
 use Rattle.nub_rule.specs.Places.{life_at, bit_at, count_at, alert_at, value_at, waits_at, sem_object, cond_object}
 use Rattle.nub_rule.specs.Plays.{Becomes, Grows, recorded, with_part, tail_of, event, begun_wait, enqueue_event, signal_action, broadcast_action, load_count_records, know_count_records, advance_records}
 use Rattle.nub_rule.specs.Rule.{IsKept}
@@ -33,6 +33,7 @@ use Rattle.nub_rule.proofs.Lines.{distinct-tail_of, mem-tail_of}
 use Rattle.nub_rule.proofs.Beside.{idle}
 use Rattle.nub_rule.proofs.Owing.{owes-frame}
 use Rattle.nub_rule.proofs.Beginning.{waits-stay, begun-frame, begun-same, counted-begun}
+use Rattle.nub_rule.proofs.Stinting.{GivesNone, begun-gives, givers-other, givers-own, stinted-begins, stinted-event}
 use Rattle.nub_rule.proofs.Spinning.{only_here}
 use Rattle.nub_rule.proofs.Showing.{pendings-put}
 use Rattle.nub_rule.proofs.Conditioning.{conditions-enter, conditions-advance}
@@ -126,7 +127,8 @@ module _ {T H W : Type 0} (l : Layout) (traced : Bool) (w : W) (begin : W → �
       (λ z. alert-seen-frame all n p (after_load alertable n m c r p z) at words words' k.sizes.few (λ j lo. stay (alert_at j)) refl k.alert_seen)
       (λ z. lives-frame all n p (after_load alertable n m c r p z) at words words' k.sizes.few (λ j lo. stay (life_at j)) refl k.lives)
       (λ z. owes-frame k.queue words words' all n p (after_load alertable n m c r p z) at (λ j lo. stay (bit_at j)) refl refl refl k.owes)
-      (λ z. begun-frame words words' all n p (after_load alertable n m c r p z) at (λ j lo. stay (waits_at (cond_object j))) refl (λ h. counted-begun p (after_load alertable n m c r p z) refl h c b raised out refl refl refl) k.begun) in
+      (λ z. begun-frame words words' all n p (after_load alertable n m c r p z) at (λ j lo. stay (waits_at (cond_object j))) refl (λ h. counted-begun p (after_load alertable n m c r p z) refl h c b raised out refl refl refl) k.begun)
+      (λ z. stinted-begins all n p (after_load alertable n m c r p z) at m (k.log ++ e ∷ []) own (givers-own m k.log e (begun-gives alertable n m c m ∙ eq-eqb m m refl)) (λ j ne. givers-other j k.log e (begun-gives alertable n m c j ∙ ne_eqb m j (λ f. ne (sym f)))) refl (λ j. ap (λ w. closing_on w j) out) (eq-eqb m m refl) (λ j ne. ne_eqb m j (λ f. ne (sym f))) k.stinted) in
       (done.0, keeps, tt, done.1, (done.2, refl))
     where
       by_whom : (alertable : Bool) (n m c : ℕ) → (enqueue_event alertable n m c).thread.0 ≡ n
@@ -166,11 +168,11 @@ module _ {T H W : Type 0} (l : Layout) (traced : Bool) (w : W) (begin : W → �
   know_count_keeps slots id c me i word low kind here = subst (λ (i : ℕ). Allows (IsKept l traced w begin holds) slots id me i (λ x. x) (know_count_records (step slots i 0 0 none) me)) (sym word) (know_count_at slots id c me low kind here)
 
   -- an event by which the count of c is advanced, and ys are left
-  advances_at : (n c : ℕ) (e : Event) (ys : List ℕ) (f : ℕ → Bool) (p : Part T H) (cs : List (ℕ × Slot T)) → c < 64 → p.spin ≡ Some (cond_object c) → p.wait ≡ None → p.count < 18446744073709551615 → MayRecord traced p.life p.pen → e.thread.0 ≡ n
+  advances_at : (n c : ℕ) (e : Event) (ys : List ℕ) (f : ℕ → Bool) (p : Part T H) (cs : List (ℕ × Slot T)) → c < 64 → p.spin ≡ Some (cond_object c) → p.wait ≡ None → p.count < 18446744073709551615 → MayRecord traced p.life p.pen → e.thread.0 ≡ n → GivesNone e.action
       → ((t : ℕ) → f t ≡ mem t ys) → ((t : ℕ) → mem t p.left ≡ false → mem t ys ≡ false)
       → ((words : List ℕ) (homes : List (Option (Slot T))) (all : List (Part T H)) (k : Core l traced w holds words homes all) → get_elem? all n ≡ some p → IsNamed l e.action × Acts k.spec e (record k.spec { members = put k.spec.members c f }))
       → Steps l traced w begin holds n (count_at (cond_object c)) (λ x. (x + 1) % 2 ^ 64) p cs (λ r q ds. (r ≡ p.count) × Distinct p.queue × Learns e n p (λ z. record (recorded p z e) { left = ys; count = p.count + 1; calling = None }) q × (ds ≡ cs))
-  advances_at n c e ys f p cs low here out more may by is less acts words homes all k at small =
+  advances_at n c e ys f p cs low here out more may by none_given is less acts words homes all k at small =
       let i : ℕ = count_at (cond_object c) in
       let r : ℕ = get_or words i 0 in
       let v : ℕ = (r + 1) % 2 ^ 64 in
@@ -196,14 +198,15 @@ module _ {T H W : Type 0} (l : Layout) (traced : Bool) (w : W) (begin : W → �
       (λ z. alert-seen-stays all n p (after z) at words i v k.sizes.few (λ j lo z. omega arith) refl k.alert_seen)
       (λ z. lives-frame all n p (after z) at words words' k.sizes.few (lives-stay words i v (λ j lo z. omega arith)) refl k.lives)
       (λ z. owes-frame k.queue words words' all n p (after z) at (λ j lo. other words i (bit_at j) v (λ z. omega arith)) refl refl refl k.owes)
-      (λ z. begun-same words words' all n p (after z) at (waits-stay words i v (λ j lo y. omega arith)) refl refl refl k.begun) in
+      (λ z. begun-same words words' all n p (after z) at (waits-stay words i v (λ j lo y. omega arith)) refl refl refl k.begun)
+      (λ z. stinted-event all n p (after z) at e none_given refl (λ m. refl) k.stinted) in
       (done.0, keeps, tt, done.1, (sym known, subst Distinct (sym spins.1) (distinct-tail_of (k.owed (cond_object c)) (k.queue (cond_object c)) (k.lines.distinct (cond_object c))), done.2, refl))
 
   advance_at : (leave : List ℕ → List ℕ) (action : ℕ → List ℕ → Action) (f : ℕ → Bool) (slots id c : ℕ) (me : Me (Slot T) (View T H W)) → c < 64 → me.0.kind ≡ Member → me.0.part.spin ≡ Some (cond_object c) → me.0.part.wait ≡ None → me.0.part.count < 18446744073709551615 → MayRecord traced me.0.part.life me.0.part.pen
-      → ((t : ℕ) → f t ≡ mem t (leave me.0.part.queue)) → ((t : ℕ) → mem t me.0.part.left ≡ false → mem t (leave me.0.part.queue) ≡ false)
+      → GivesNone (action c (leave me.0.part.queue)) → ((t : ℕ) → f t ≡ mem t (leave me.0.part.queue)) → ((t : ℕ) → mem t me.0.part.left ≡ false → mem t (leave me.0.part.queue) ≡ false)
       → ((words : List ℕ) (homes : List (Option (Slot T))) (all : List (Part T H)) (k : Core l traced w holds words homes all) → get_elem? all me.0.number ≡ some me.0.part → IsNamed l (action c (leave me.0.part.queue)) × Acts k.spec (event me.0.number (action c (leave me.0.part.queue))) (record k.spec { members = put k.spec.members c f }))
       → (i : ℕ) → i ≡ count_at (cond_object c) → Allows (IsKept l traced w begin holds) slots id me i (λ x. (x + 1) % 2 ^ 64) (advance_records leave action (step slots i 1 0 none) me)
-  advance_at leave action f slots id c me low kind here out more may is less acts i word = let v = me.0 in let n = v.number in let p = v.part in let o : ℕ = count_at (cond_object c) in let ys : List ℕ = leave p.queue in
+  advance_at leave action f slots id c me low kind here out more may none_given is less acts i word = let v = me.0 in let n = v.number in let p = v.part in let o : ℕ = count_at (cond_object c) in let ys : List ℕ = leave p.queue in
       let At : ℕ → Part T H → List (ℕ × Slot T) → Type 0 = λ r q ds. (r ≡ p.count) × Distinct p.queue × Learns (event n (action c ys)) n p (λ z. record (recorded p z (event n (action c ys))) { left = ys; count = p.count + 1; calling = None }) q × (ds ≡ me.1) in
       subst (λ (i : ℕ). Allows (IsKept l traced w begin holds) slots id me i (λ x. (x + 1) % 2 ^ 64) (advance_records leave action (step slots i 1 0 none) me)) (sym word)
       (member_steps l traced w begin holds slots id o (λ x. (x + 1) % 2 ^ 64) v me.1 At (advance_records leave action (step slots o 1 0 none) me) kind
@@ -211,17 +214,17 @@ module _ {T H W : Type 0} (l : Layout) (traced : Bool) (w : W) (begin : W → �
       (λ r q ds world t c' is'. let ec : c ≡ c' = omega arith in
       subst (λ (z : ℕ). (r ≡ p.count) × Distinct p.queue × (between : List Event) × Grows n p between (event n (action z ys)) × Becomes me (record (recorded p (p.seen ++ between) (event n (action z ys))) { left = ys; count = p.count + 1; calling = None }) (with_part v q, ds)) ec
       (t.0, t.1, t.2.0, t.2.1, λ j. (with_part v (t.2.2 j), t.3 j)))
-      (advances_at n c (event n (action c ys)) ys f p me.1 low here out more may refl is less acts))
+      (advances_at n c (event n (action c ys)) ys f p me.1 low here out more may refl none_given is less acts))
 
   pub advance_broadcast_keeps : (slots id c : ℕ) (me : Me (Slot T) (View T H W)) (i : ℕ) → i ≡ count_at (cond_object c) → c < 64 → c < l.conditions → me.0.kind ≡ Member → me.0.part.spin ≡ Some (cond_object c) → me.0.part.wait ≡ None → me.0.part.count < 18446744073709551615 → MayRecord traced me.0.part.life me.0.part.pen
       → Allows (IsKept l traced w begin holds) slots id me i (λ x. (x + 1) % 2 ^ 64) (advance_records (λ _. []) broadcast_action (step slots i 1 0 none) me)
-  advance_broadcast_keeps slots id c me i word low named kind here out more may = advance_at (λ _. []) broadcast_action (λ _. false) slots id c me low kind here out more may (λ t. refl) (λ t is. refl)
+  advance_broadcast_keeps slots id c me i word low named kind here out more may = advance_at (λ _. []) broadcast_action (λ _. false) slots id c me low kind here out more may (λ m. refl) (λ t. refl) (λ t is. refl)
       (λ words homes all k at. (named, (record { live = k.shows.lives me.0.number me.0.part at ∙ may.0; order = k.shows.pendings.pends me.0.number me.0.part at ∙ ap pending_of out; requires_met = tt; when_met = tt; choice_met = tt }, refl))) i word
 
   pub advance_signal_keeps : (slots id c : ℕ) (me : Me (Slot T) (View T H W)) (i : ℕ) → i ≡ count_at (cond_object c) → c < 64 → c < l.conditions → me.0.kind ≡ Member → me.0.part.spin ≡ Some (cond_object c) → me.0.part.wait ≡ None → me.0.part.left ≡ me.0.part.queue → me.0.part.count < 18446744073709551615 → MayRecord traced me.0.part.life me.0.part.pen
       → Allows (IsKept l traced w begin holds) slots id me i (λ x. (x + 1) % 2 ^ 64) (advance_records tail_of signal_action (step slots i 1 0 none) me)
   advance_signal_keeps slots id c me i word low named kind here out even more may = let n = me.0.number in let p = me.0.part in let ys : List ℕ = tail_of p.queue in
-      advance_at tail_of signal_action (in_set (set_of ys)) slots id c me low kind here out more may (λ t. in_set-of t ys) (λ t off. less-tail_of t p.queue (ap (mem t) (sym even) ∙ off))
+      advance_at tail_of signal_action (in_set (set_of ys)) slots id c me low kind here out more may (λ m. refl) (λ t. in_set-of t ys) (λ t off. less-tail_of t p.queue (ap (mem t) (sym even) ∙ off))
       (λ words homes all k at.
       let o : ℕ = cond_object c in
       let mine = (k.spins.spinning n p at o).0 here in

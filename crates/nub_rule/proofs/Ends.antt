@@ -28,7 +28,7 @@ use Rattle.nub_rule.specs.declared.view.Part.{Part}
 use Rattle.nub_rule.specs.declared.view.View.{View}
 use Rattle.nub_rule.specs.declared.view.Kind.TheVariants.{Collector, Member}
 use Rattle.nub_rule.specs.Items.{queue_of, no_queue, HasVersion, Knows, Spinning, Each, Chronicle, Owns, Stands, Current, Wide, Shared, PenFits}
-use Rattle.nub_rule.specs.Parts.{Got, Lacks, first_part, fresh, number_of, pending_of, waits_on, open_on}
+use Rattle.nub_rule.specs.Parts.{Got, Lacks, closing_on, first_part, fresh, number_of, pending_of, waits_on, open_on}
 use Rattle.nub_rule.specs.Owed.{SleepsSound}
 use Rattle.nub_rule.specs.Begun.{IsCounted}
 use Rattle.nub_rule.specs.Places.{most_threads, value_at, word_count, bit_at, spin_at, length_at, count_at, waits_at, alert_at, ready_at, life_at, pen_at, number_at, sem_object, cond_object}
@@ -40,6 +40,7 @@ use Rattle.nub_rule.specs.Slots.{find, Below}
 use Rattle.nub_rule.proofs.Apart.{thread-of}
 use Rattle.nub_rule.proofs.Turns.{find-here}
 use Rattle.nub_rule.proofs.Beginning.{raisers-none}
+use Rattle.nub_rule.proofs.Stinting.{stinted-end}
 use Rattle.nub_rule.specs.Ends.{AreFirst, firsts, living, opening_slots, Settles, Leaves}
 use Rattle.nub_rule.proofs.Each.{put-at, put-else, at_within, at_below, same_at, at_middle, same_elements, at_firsts}
 
@@ -243,6 +244,17 @@ module _ {T H W : Type 0} (l : Layout) (traced : Bool) (w : W) (begin : W → �
             counted = λ c low. zeros (waits_at (cond_object c)) (λ t e. omega arith) ∙ sym (raisers-none c all (each-firsts (λ n p. p.raised ≢ Some c) (λ n. first_part l.version n (Some (begin w n))) l.threads (λ i low is. none_some c is)));
             covered = each-firsts (λ n p. IsCounted p) (λ n. first_part l.version n (Some (begin w n))) l.threads (λ i low. record { member = λ x k is stood. absurd (none_some x is); stander = λ s c is there. absurd (none_some s is) });
           };
+          stinted = record {
+            first = values;
+            first_shares = firsts (begin w) l.threads;
+            stints = [];
+            closing = λ _. [];
+            lead = (first, refl, refl);
+            own = each-firsts (λ n p. [] ≡ p.stints) (λ n. first_part l.version n (Some (begin w n))) l.threads (λ i low. refl);
+            gives = λ m. refl;
+            free = λ m is. refl;
+            closes = each-firsts (λ i p. (m : ℕ) → none ≡ some i → [] ≡ cond (closing_on p.wait m) (i ∷ []) []) (λ n. first_part l.version n (Some (begin w n))) l.threads (λ i low m is. refl);
+          };
         };
       }
 
@@ -280,6 +292,7 @@ module _ {T H W : Type 0} (l : Layout) (traced : Bool) (w : W) (begin : W → �
           kept = c.owned.kept;
           each_share = c.owned.shares_wide;
           shared = c.owned.shared;
+          stinted = stinted-end c.owner free c.stinted;
         });
         many = c.owned.values_wide;
         values_there = λ m x at. let lv = c.owned.values_wide in let low = at_within c.values m x at in f.4 (value_at m) (Value (Some x)) (c.owned.at_home m (omega arith) x at (free m));

@@ -31,6 +31,7 @@ use Rattle.nub_rule.proofs.Idle.{idle-live}
 use Rattle.nub_rule.proofs.Members.{others_fit, placed-set}
 use Rattle.nub_rule.proofs.Frames.{other, alert-seen-frame, alert-seen-stays, bits-stay, lines-frame, lives-frame, owned-frame, pen-stay, pens-frame, ready-stay, shown-stay, shows-frame, sizes-frame, spins-frame, spins-stay, recorded-event}
 use Rattle.nub_rule.proofs.Beginning.{waits-stay, begun-same}
+use Rattle.nub_rule.proofs.Stinting.{stinted-event, stinted-frame}
 use Rattle.nub_rule.proofs.LifeSteps.{life-aside, lives-own, shows-life, two-of}
 use Rattle.nub_rule.proofs.Owing.{owes-frame}
 use Rattle.nub_rule.proofs.Penning.{pens-event, numbered-by}
@@ -116,6 +117,7 @@ module _ {T H W : Type 0} (l : Layout) (traced : Bool) (w : W) (holds : W → Li
           lives = lives-own words 1 all' t old new there' few' (get_or-set_same words i 1 0 (omega arith)) (lives-frame all n p q at words words few (λ k lo. refl) refl c.lives);
           owes = owes-frame c.queue words' words' all' t old new there' (λ j lo. refl) refl refl refl (owes-frame c.queue words words' all n p q at (λ j lo. other words i (bit_at j) 1 (λ y. omega arith)) refl refl refl c.owes);
           begun = begun-same words' words' all' t old new there' (λ j lo. refl) refl refl refl (begun-same words words' all n p q at (waits-stay words i 1 (λ j lo y. omega arith)) refl refl refl c.begun);
+          stinted = stinted-frame all' t old new there' (c.log ++ e ∷ []) (λ m. refl) refl (λ m. refl) (stinted-event all n p q at e (λ m. refl) refl (λ m. refl) c.stinted);
         };
       }
 

@@ -1,5 +1,5 @@
 -- The invariant says the rule in its own words: from the items to what is said of words, slots and views.
-use Rattle.std.proofs.Common.{Bool, true, false, cond, ◌≡◌, ◌≢◌, ℕ, suc, ◌+◌, ◌<◌, ◌≤◌, ◌⊎◌, List, [], ◌∷◌, ◌++◌, length, get_or, refl, sym, ap, ◌∙◌, subst, inl, inr, ⊎_elim, arith, Some, None, eq-eqb}
+use Rattle.std.proofs.Common.{Bool, true, false, cond, ◌≡◌, ◌≢◌, ℕ, suc, ◌+◌, ◌<◌, ◌≤◌, ◌⊎◌, List, [], ◌∷◌, ◌++◌, append-nil, length, get_or, refl, sym, ap, ◌∙◌, subst, inl, inr, ⊎_elim, arith, Some, None, eq-eqb}
 use Rattle.std.specs.Prelude.{◌↔◌, Option as Opt}
 use Rattle.std.proofs.lemmas.Bool.{cases_lt}
 use mathlib.Core.Logic.{dite}
@@ -31,11 +31,13 @@ use Rattle.nub_rule.specs.declared.view.Kind.TheVariants.{Root, Member, Collecto
 use Rattle.nub_rule.specs.Rule.{ChildFits, FitsAs, IsKept, IsOfChild, IsWith}
 use Rattle.atomic_table.specs.Table.{State}
 use Rattle.nub_rule.specs.Items.{Each, Marks, Says, PenFits, Core, queue_of}
-use Rattle.nub_rule.specs.Parts.{Has, HasNothing, counts_in, is_at, is_open, open_on, stands_at, waits_on}
+use Rattle.nub_rule.specs.Parts.{Has, HasNothing, closing_on, counts_in, is_at, is_open, open_on, stands_at, waits_on}
 use Rattle.nub_rule.specs.Places.{alert_at, bit_at, cond_object, count_at, number_at, pen_at, ready_at, sem_object, spin_at}
-use Rattle.nub_rule.specs.PackageRule.{AnyView, HasBitInWait, IsFlagOf, IsKnown, SaysHolds, OwesAt, Owes, History, Meaning, MutexBits, SpinWords, QueuedThreads, ReadyWords, NoWakeLost, IsReady, CountsRead, BegunWaits, ValuesAndShares, Numbering, PackageRule, AreViews, ChildIs}
+use Rattle.nub_rule.specs.PackageRule.{AnyView, HasBitInWait, IsFlagOf, IsKnown, SaysHolds, OwesAt, Owes, History, Meaning, MutexBits, SpinWords, QueuedThreads, ReadyWords, NoWakeLost, IsReady, CountsRead, BegunWaits, ValuesAndShares, ValuesAlong, Numbering, PackageRule, AreViews, ChildIs}
 use Rattle.nub_rule.proofs.Each.{at_below, put-at, put-else, same_at}
 use Rattle.nub_rule.proofs.Owing.{bound-nowhere, bound-asleep}
+use Rattle.nub_rule.specs.Stints.{stinters}
+use Rattle.nub_rule.proofs.Stinting.{given, lead-in-turn}
 use Rattle.nub_rule.proofs.Beginning.{counts-some, raisers-none, raisers-some}
 use Rattle.nub_rule.proofs.Lines.{both_ways, distinct-apart, distinct-tail_of, eqb_is, false_true, mem-append, mem-tail_of, not_true, stand_none, stand_same, stand_some}
 
@@ -333,6 +335,27 @@ module _ {T H W : Type 0} (l : Layout) (traced : Bool) (w : W) (holds : W → Li
     share = c.owned.shared;
   }
 
+  values_along : ValuesAlong (holds w) c.log all c.values c.shares
+  values_along = let k = c.stinted in record {
+    first = k.first;
+    first_shares = k.first_shares;
+    stints = k.stints;
+    lead = k.lead;
+    in_turn = λ m x y here there. lead-in-turn (holds w) m k.first k.first_shares k.stints c.values c.shares x y k.lead here there;
+    own = k.own;
+    gives = λ m. whose (c.owner m)
+        (λ free. inl (
+          (λ n p at yet. some-ne-none n (sym ((c.owned.standing n p at m).0 yet.0) ∙ free)),
+          k.gives m ∙ (ap (λ ts. stinters m k.stints ++ ts) (k.free m free) ∙ append-nil (stinters m k.stints)),
+        ))
+        (λ n own. let v = at_below all n (c.owned.within m n own).1 in let g = λ (b : Bool) (is : closing_on v.0.wait m ≡ b). given all n v.0 v.0 v.1 m b k own is in either (closing_on v.0.wait m)
+        (λ yet. inr (n, (v.0, v.1, ((c.owned.standing n v.0 v.1 m).1 own, yet)), g true yet))
+        (λ done. inl (
+          (λ j q at yet. let e : j ≡ n = some-injective j n (sym ((c.owned.standing j q at m).0 yet.0) ∙ own) in let s : q ≡ v.0 = same_at all n q v.0 (ap (get_elem? all) (sym e) ∙ at) v.1 in both_ways (closing_on q.wait m) yet.1 (ap (λ (z : Part T H). closing_on z.wait m) s ∙ done)),
+          g false done ∙ append-nil (stinters m k.stints),
+        )));
+  }
+
   numbering : Numbering traced c.log words all
   numbering = let has = λ (n : ℕ) (p : Part T H) (at : get_elem? all n ≡ some p). pen-has (length c.log) (get_or words number_at 0) n c.writer p.pen (c.pens.pens n p at) in record {
     pen = flag-of all (get_or words pen_at 0) c.writer (λ p. p.pen ≢ No) c.pens.flag c.pens.within has;
@@ -364,6 +387,7 @@ module _ {T H W : Type 0} (l : Layout) (traced : Bool) (w : W) (holds : W → Li
     counts_read = counts_read;
     begun_waits = begun_waits;
     values_and_shares = values_and_shares;
+    values_along = values_along;
     numbering = numbering;
   }
 

@@ -4,6 +4,8 @@ pub mod Apart
 pub mod Members
 pub mod Runs
 pub mod Frames
+pub mod Stinting
+pub mod Takers
 pub mod Beside
 pub mod Penning
 pub mod Marking

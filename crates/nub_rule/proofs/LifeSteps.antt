@@ -34,6 +34,7 @@ use Rattle.nub_rule.proofs.Members.{Steps, member_steps}
 use Rattle.nub_rule.proofs.Frames.{SameShown, other, alert-seen-frame, alert-seen-stays, alerts-frame, conditions-frame, holders-frame, lives-frame, pendings-frame, semaphores-frame, shown-stay, shows-frame}
 use Rattle.nub_rule.proofs.Beside.{idle}
 use Rattle.nub_rule.proofs.Beginning.{waits-stay, begun-same}
+use Rattle.nub_rule.proofs.Stinting.{stinted-event}
 use Rattle.nub_rule.proofs.Law.{whose, holder-of}
 use Rattle.nub_rule.proofs.Marking.{Aside, Learns, marks}
 use Rattle.nub_rule.proofs.Owing.{owes-frame}
@@ -113,7 +114,8 @@ module _ {T H W : Type 0} (l : Layout) (traced : Bool) (w : W) (begin : W → �
       (λ z. alert-seen-stays all n p (ended n p z) at words i 2 few (λ j up f. omega arith) refl k.alert_seen)
       (λ z. lives-own words 2 all n p (ended n p z) at few (get_or-set_same words i 2 0 (omega arith)) k.lives)
       (λ z. owes-frame k.queue words words' all n p (ended n p z) at (λ j lo. other words i (bit_at j) 2 (λ f. omega arith)) refl refl refl k.owes)
-      (λ z. begun-same words words' all n p (ended n p z) at (waits-stay words i 2 (λ j lo f. omega arith)) refl refl refl k.begun) in
+      (λ z. begun-same words words' all n p (ended n p z) at (waits-stay words i 2 (λ j lo f. omega arith)) refl refl refl k.begun)
+      (λ z. stinted-event all n p (ended n p z) at e (λ m. refl) refl (λ m. refl) k.stinted) in
       (done.0, keeps, tt, done.1, (done.2, refl))
 
   end_life_at : (slots id : ℕ) (me : Me (Slot T) (View T H W)) → l.version ≡ Two → me.0.kind ≡ Member → HasNothing me.0.part → me.0.child ≡ Childless → MayRecord traced me.0.part.life me.0.part.pen
@@ -152,7 +154,8 @@ module _ {T H W : Type 0} (l : Layout) (traced : Bool) (w : W) (begin : W → �
       (λ z. alert-seen-frame all n p (recorded p z e) at words words' few (λ j lo. stay (alert_at j)) refl k.alert_seen)
       (λ z. lives-frame all n p (recorded p z e) at words words' few (λ j lo. stay (life_at j)) refl k.lives)
       (λ z. owes-frame k.queue words words' all n p (recorded p z e) at (λ j lo. stay (bit_at j)) refl refl refl k.owes)
-      (λ z. begun-same words words' all n p (recorded p z e) at (λ j lo. stay (waits_at (cond_object j))) refl refl refl k.begun) in
+      (λ z. begun-same words words' all n p (recorded p z e) at (λ j lo. stay (waits_at (cond_object j))) refl refl refl k.begun)
+      (λ z. stinted-event all n p (recorded p z e) at e (λ m. refl) refl (λ m. refl) k.stinted) in
       (done.0, keeps, tt, done.1, inl (hit, done.2, refl)))
       (λ miss. (p, keeps, tt, idle l traced w holds words homes all i n p at k, inr (miss, refl, refl)))
 

@@ -12,6 +12,7 @@ use Rattle.nub_rule.specs.declared.view.Part.{Part}
 use Rattle.nub_rule.specs.Items.{Shows, Pens, AlertSeen, Lives, Core}
 use Rattle.nub_rule.specs.Owed.{WakeOwed}
 use Rattle.nub_rule.specs.Begun.{BegunWaits}
+use Rattle.nub_rule.specs.Stints.{Stinted}
 use Rattle.nub_rule.specs.Parts.{made, MayRecord}
 use Rattle.nub_rule.specs.Places.{most_threads, bit_at, spin_at, length_at, ready_at, pen_at, number_at}
 use Rattle.nub_rule.specs.Plays.{Grows}
@@ -55,8 +56,8 @@ module _ {T H W : Type 0} (l : Layout) (traced : Bool) (w : W) (holds : W → Li
 
   pub marks : (e : Event) (n i x : ℕ) (p : Part T H) (after : List Event → Part T H) (words : List ℕ) (homes : List (Option (Slot T))) (all : List (Part T H)) (c : Core l traced w holds words homes all) (spec' : Spec) → get_elem? all n ≡ some p → e.thread.0 ≡ n → IsNamed l e.action → MayRecord traced p.life p.pen → Aside i
       → ((z : List Event) → IsRecorded p (after z) z e) → Acts c.spec e spec' → ((z : List Event) → Shows (set words i x) c.spinner c.queue c.owner spec' (set all n (after z)))
-      → ((z : List Event) → AlertSeen (set words i x) (set all n (after z))) → ((z : List Event) → Lives (set words i x) (set all n (after z))) → ((z : List Event) → WakeOwed c.queue (set words i x) (set all n (after z))) → ((z : List Event) → BegunWaits (set words i x) (set all n (after z))) → Marked e n i x p after words homes all
-  marks e n i x p after words homes all c spec' at by named may aside records acts shows saw lives owes begun =
+      → ((z : List Event) → AlertSeen (set words i x) (set all n (after z))) → ((z : List Event) → Lives (set words i x) (set all n (after z))) → ((z : List Event) → WakeOwed c.queue (set words i x) (set all n (after z))) → ((z : List Event) → BegunWaits (set words i x) (set all n (after z))) → ((z : List Event) → Stinted (holds w) (c.log ++ e ∷ []) c.owner c.values c.shares (set all n (after z))) → Marked e n i x p after words homes all
+  marks e n i x p after words homes all c spec' at by named may aside records acts shows saw lives owes begun stinted =
       let seen = (c.recorded.each n p at).begins in
       let z : List Event = p.seen ++ seen.0 in
       let q : Part T H = after z in
@@ -91,6 +92,7 @@ module _ {T H W : Type 0} (l : Layout) (traced : Bool) (w : W) (holds : W → Li
           lives = lives z;
           owes = owes z;
           begun = begun z;
+          stinted = stinted z;
         },
         (
           seen.0,

@@ -150,7 +150,7 @@ module _ {T H : Type 0} (traced : Bool) (total : ℕ) (words : List ℕ) (writer
 
 module _ {T H W : Type 0} (l : Layout) (traced : Bool) (w : W) (begin : W → ℕ → H) (holds : W → List T → List H → Type 0) where
   alike : (p : Part T H) (x : Pen) → Alike l traced w holds p (record p { pen = x })
-  alike p x = record { version = refl; life = refl; seen = refl; mine = refl; places = refl; held = refl; share = refl }
+  alike p x = record { version = refl; life = refl; seen = refl; mine = refl; places = refl; held = refl; share = refl; stints = refl; closing = λ m. refl }
 
   -- a step on the pen or the number
   with_pen : (words : List ℕ) (homes : List (Option (Slot T))) (all : List (Part T H)) (n i y : ℕ) (p : Part T H) (x : Pen) (writer' : Option ℕ) → pen_at ≤ i → i ≤ number_at → get_elem? all n ≡ some p → (c : Core l traced w holds words homes all) → Pens traced (length c.log) (set words i y) writer' (set all n (record p { pen = x }))

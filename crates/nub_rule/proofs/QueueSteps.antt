@@ -96,7 +96,7 @@ module _ {T H W : Type 0} (l : Layout) (traced : Bool) (w : W) (begin : W → �
   notes : (n i : ℕ) (p : Part T H) (failed turns cleared looked : List ℕ) (words : List ℕ) (homes : List (Option (Slot T))) (all : List (Part T H)) → get_elem? all n ≡ some p → (c : Core l traced w holds words homes all) → WakeOwed c.queue words (set all n (record p { failed = failed; turns = turns; cleared = cleared; looked = looked }))
       → Core l traced w holds (set words i (get_or words i 0)) homes (set all n (record p { failed = failed; turns = turns; cleared = cleared; looked = looked }))
   notes n i p failed turns cleared looked words homes all at c owes = let q : Part T H = record p { failed = failed; turns = turns; cleared = cleared; looked = looked } in
-      still l traced w holds words homes all i n p q at record { version = refl; life = refl; seen = refl; mine = refl; places = refl; held = refl; share = refl } refl refl refl refl refl refl refl c
+      still l traced w holds words homes all i n p q at record { version = refl; life = refl; seen = refl; mine = refl; places = refl; held = refl; share = refl; stints = refl; closing = λ m. refl } refl refl refl refl refl refl refl c
       (lines-same (λ o. c.owed o ++ c.queue o) (λ o. c.owed o ++ c.queue o) words words all n p q at c.sizes.few (λ t lo. refl) (λ o. refl) refl c.lines)
       (alert-seen-frame all n p q at words words c.sizes.few (λ k lo. refl) refl c.alert_seen)
       owes
@@ -136,7 +136,7 @@ module _ {T H W : Type 0} (l : Layout) (traced : Bool) (w : W) (begin : W → �
         q,
         keeps,
         tt,
-        requeues n o p q ys (c.owed o) words homes all at low here record { version = refl; life = refl; seen = refl; mine = refl; places = refl; held = refl; share = refl } refl refl mine.2 (λ e. ap (λ z. z ++ n ∷ []) e) refl refl refl c
+        requeues n o p q ys (c.owed o) words homes all at low here record { version = refl; life = refl; seen = refl; mine = refl; places = refl; held = refl; share = refl; stints = refl; closing = λ m. refl } refl refl mine.2 (λ e. ap (λ z. z ++ n ∷ []) e) refl refl refl c
             (lines-push line line' words words' all n p q at c.sizes.few o st (ready-stay words (length_at o) (length ys) (λ k up z. omega arith)) is (λ k ne i. put-else c.owed o k (c.owed o) ne i ++ put-else c.queue o k ys ne i) out refl refl (λ f. f) c.lines)
             (owes-push c.queue (put c.queue o ys) words words' all n p q at o st (length-gates o far words (length ys)) (put-here c.queue o ys ∙ ap (λ z. z ++ n ∷ []) mine.1) (λ k ne. put-else c.queue o k ys ne) out refl refl tt (λ f. f) refl refl c.owes)
             refl
@@ -170,7 +170,7 @@ module _ {T H W : Type 0} (l : Layout) (traced : Bool) (w : W) (begin : W → �
         q,
         keeps,
         tt,
-        requeues n o p q ys (c.owed o) words homes all at low here record { version = refl; life = refl; seen = refl; mine = refl; places = refl; held = refl; share = refl } refl refl mine.2 (λ e. ap (less n) e) refl refl refl c
+        requeues n o p q ys (c.owed o) words homes all at low here record { version = refl; life = refl; seen = refl; mine = refl; places = refl; held = refl; share = refl; stints = refl; closing = λ m. refl } refl refl mine.2 (λ e. ap (less n) e) refl refl refl c
             (lines-leave line line' words words' all n p q at c.sizes.few o (ready-stay words (length_at o) (length ys) (λ k up z. omega arith)) is (λ k ne i. put-else c.owed o k (c.owed o) ne i ++ put-else c.queue o k ys ne i) (mem-tail_of n (c.owed o) (c.queue o) queued) refl c.lines)
             (owes-leave c.queue (put c.queue o ys) words words' all n p q at o (length-gates o far words (length ys)) (λ k ne. put-else c.queue o k ys ne) ((c.lines.stands n p at).lined o (mem-tail_of n (c.owed o) (c.queue o) queued)).0 refl refl refl c.owes)
             refl
@@ -203,7 +203,7 @@ module _ {T H W : Type 0} (l : Layout) (traced : Bool) (w : W) (begin : W → �
         q,
         keeps,
         tt,
-        requeues n o p q ys zs words homes all at low here record { version = refl; life = refl; seen = refl; mine = refl; places = refl; held = refl; share = refl } refl refl refl (λ e. ap tail_of e) refl refl refl c
+        requeues n o p q ys zs words homes all at low here record { version = refl; life = refl; seen = refl; mine = refl; places = refl; held = refl; share = refl; stints = refl; closing = λ m. refl } refl refl refl (λ e. ap tail_of e) refl refl refl c
             (lines-same line line' words words' all n p q at c.sizes.few (ready-stay words (length_at o) (length ys) (λ k up z. omega arith)) same refl c.lines)
             (owes-pop c.queue (put c.queue o ys) words words' all n p q at o (length-gates o far words (length ys))
             (first_stands all (c.owed o) (c.queue o) words line (put c.queue o ys o) o c.lines refl (put-here c.queue o ys ∙ ap tail_of mine.1)) (λ e. put-here c.queue o ys ∙ (ap tail_of mine.1 ∙ ap tail_of e)) (λ k ne. put-else c.queue o k ys ne) refl refl refl c.owes)

@@ -63,7 +63,7 @@ module _ {T H W : Type 0} (l : Layout) (traced : Bool) (w : W) (begin : W → �
         q,
         keeps,
         tt,
-        beside l traced w holds words words' homes homes all n p q at (length-set words (ready_at t) 1) refl (bits-stay words (ready_at t) 1 (λ k up z. omega arith)) (lives-stay words (ready_at t) 1 (λ k up z. omega arith)) (λ m. refl) record { version = refl; life = refl; seen = refl; mine = refl; places = refl; held = refl; share = refl } c.spinner c.writer c.queue owed' c
+        beside l traced w holds words words' homes homes all n p q at (length-set words (ready_at t) 1) refl (bits-stay words (ready_at t) 1 (λ k up z. omega arith)) (lives-stay words (ready_at t) 1 (λ k up z. omega arith)) (λ m. refl) record { version = refl; life = refl; seen = refl; mine = refl; places = refl; held = refl; share = refl; stints = refl; closing = λ m. refl } c.spinner c.writer c.queue owed' c
             (spins-change c.spinner c.queue c.owed words homes all n p q at s o (c.queue o) zs c.queue owed' words' below here refl mine.1 (ap (without t) mine.2) refl (λ k ne. refl) (put-here c.owed o zs) (λ k ne. put-else c.owed o k zs ne)
             (λ k lo. (spins-stay words (ready_at t) 1 (λ k up z. omega arith) (λ k up z. omega arith) k lo).0) ((spins-stay words (ready_at t) 1 (λ k up z. omega arith) (λ k up z. omega arith) o below).1 ∙ s.measured o below) (λ k lo ne. (spins-stay words (ready_at t) 1 (λ k up z. omega arith) (λ k up z. omega arith) k lo).1))
             (lines-ready (λ i. c.owed i ++ c.queue i) (λ i. owed' i ++ c.queue i) words words' all n p q at c.sizes.few t o (λ k lo ne. other words (ready_at t) (ready_at k) 1 (λ z. ne (thread-of k t lo low (omega arith)))) (get_or-set_same words (ready_at t) 1 0 (omega arith))
@@ -80,7 +80,7 @@ module _ {T H W : Type 0} (l : Layout) (traced : Bool) (w : W) (begin : W → �
   restages : (n i : ℕ) (p : Part T H) (s : Stand) (g : Stage) (words : List ℕ) (homes : List (Option (Slot T))) (all : List (Part T H)) → get_elem? all n ≡ some p → p.stand ≡ Some s → (c : Core l traced w holds words homes all) → (IsFound g → get_or words (ready_at n) 0 ≡ 1) → (IsUntested s.stage → get_or words (bit_at s.at) 0 ≡ 0 → IsUntested g) → (IsAsleep g → p.cleared ≡ [])
       → Core l traced w holds (set words i (get_or words i 0)) homes (set all n (record p { stand = staged g p.stand }))
   restages n i p s g words homes all at stood c found untested asleep = let q : Part T H = record p { stand = staged g p.stand } in
-      still l traced w holds words homes all i n p q at record { version = refl; life = refl; seen = refl; mine = refl; places = refl; held = refl; share = refl } refl refl refl refl refl refl refl c
+      still l traced w holds words homes all i n p q at record { version = refl; life = refl; seen = refl; mine = refl; places = refl; held = refl; share = refl; stints = refl; closing = λ m. refl } refl refl refl refl refl refl refl c
       (lines-stage (λ o. c.owed o ++ c.queue o) (λ o. c.owed o ++ c.queue o) words words all n p q at c.sizes.few s (record s { stage = g }) (λ t lo. refl) (λ o. refl) stood (ap (staged g) stood) refl found c.lines)
       (alert-seen-frame all n p q at words words c.sizes.few (λ k lo. refl) refl c.alert_seen)
       (owes-stage c.queue words words all n p q at s (record s { stage = g }) (λ k lo. refl) stood (ap (staged g) stood) refl untested asleep refl refl c.owes)
@@ -122,7 +122,7 @@ module _ {T H W : Type 0} (l : Layout) (traced : Bool) (w : W) (begin : W → �
         q,
         keeps,
         tt,
-        beside l traced w holds words words' homes homes all n p q at (length-set words i 0) refl (bits-stay words (ready_at n) 0 (λ k up z. omega arith)) (lives-stay words (ready_at n) 0 (λ k up z. omega arith)) (λ m. refl) record { version = refl; life = refl; seen = refl; mine = refl; places = refl; held = refl; share = refl } c.spinner c.writer c.queue c.owed c
+        beside l traced w holds words words' homes homes all n p q at (length-set words i 0) refl (bits-stay words (ready_at n) 0 (λ k up z. omega arith)) (lives-stay words (ready_at n) 0 (λ k up z. omega arith)) (λ m. refl) record { version = refl; life = refl; seen = refl; mine = refl; places = refl; held = refl; share = refl; stints = refl; closing = λ m. refl } c.spinner c.writer c.queue c.owed c
             (spins-frame all n p q at c.spinner c.queue c.owed words words' homes homes (spins-stay words (ready_at n) 0 (λ k up z. omega arith) (λ k up z. omega arith)) (λ k lo. refl) refl refl refl c.spins)
             (lines-unready (λ k. c.owed k ++ c.queue k) (λ k. c.owed k ++ c.queue k) words words' all n p q at c.sizes.few (λ k lo ne. other words i (ready_at k) 0 (λ z. ne (thread-of k n lo low (omega arith)))) (λ k. refl) one (get_or-set_same words i 0 0 (omega arith)) refl c.lines)
             (shows-frame all n p q at c.spinner c.queue c.owner c.spec words words' (shown-stay words (ready_at n) 0 (λ k up z. omega arith) (λ k up z. omega arith) (λ k up z. omega arith)) refl refl refl refl refl c.shows)

@@ -32,6 +32,7 @@ use Rattle.nub_rule.proofs.Lines.{lines-same}
 use Rattle.nub_rule.proofs.Beside.{still}
 use Rattle.nub_rule.specs.Owed.{WakeOwed}
 use Rattle.nub_rule.proofs.Beginning.{waits-stay, begun-same}
+use Rattle.nub_rule.proofs.Stinting.{GivesNone, stinted-event}
 use Rattle.nub_rule.proofs.Owing.{owes-try, owes-clear}
 use Rattle.nub_rule.proofs.Showing.{shows-sem}
 use Rattle.nub_rule.proofs.Marking.{Learns, Marked, marks}
@@ -57,6 +58,10 @@ by-alertable n s e x may is = ⊎_elim (λ (u : e ≡ p_event n s). absurd (plai
 pub by-plain : (n s : ℕ) (e : Event) → MayTakeSem n s e → ((x : SemId) → e.action ≢ AlertPReturn x) → e ≡ event n (p_action false s)
 by-plain n s e may not = ⊎_elim (λ (u : e ≡ p_event n s). u) (λ (u : e ≡ alert_p_event n s). absurd (not record { 0 = s } (ap (λ (d : Event). d.action) u))) may
 
+p-gives : (alertable : Bool) (s : ℕ) → GivesNone (p_action alertable s)
+p-gives true s m = refl
+p-gives false s m = refl
+
 -- the row of a P, whether an alert may end it or not
 p-acts : (alertable : Bool) (n s : ℕ) (old : Spec) → old.life n ≡ Live → old.pending n ≡ Nothing → old.avail s ≡ true → Acts old (event n (p_action alertable s)) (record old { avail = put old.avail s false })
 p-acts true n s old lives idle free = (record { live = lives; order = idle; requires_met = tt; when_met = free; choice_met = tt }, refl)
@@ -64,11 +69,11 @@ p-acts false n s old lives idle free = (record { live = lives; order = idle; req
 
 module _ {T H W : Type 0} (l : Layout) (traced : Bool) (w : W) (begin : W → ℕ → H) (holds : W → List T → List H → Type 0) where
   -- an event by which the bit of the semaphore s becomes x
-  sem-marks : (e : Event) (n s x : ℕ) (b : Bool) (p : Part T H) (failed turns cleared : List ℕ) (words : List ℕ) (homes : List (Option (Slot T))) (all : List (Part T H)) (c : Core l traced w holds words homes all) → get_elem? all n ≡ some p → s < 64 → e.thread.0 ≡ n → IsNamed l e.action → MayRecord traced p.life p.pen
+  sem-marks : (e : Event) (n s x : ℕ) (b : Bool) (p : Part T H) (failed turns cleared : List ℕ) (words : List ℕ) (homes : List (Option (Slot T))) (all : List (Part T H)) (c : Core l traced w holds words homes all) → get_elem? all n ≡ some p → s < 64 → e.thread.0 ≡ n → IsNamed l e.action → GivesNone e.action → MayRecord traced p.life p.pen
       → Acts c.spec e (record c.spec { avail = put c.spec.avail s b }) → Says x (cond b false true)
       → ((q : Part T H) → q.stand ≡ p.stand → q.turns ≡ turns → q.cleared ≡ cleared → WakeOwed c.queue (set words (bit_at (sem_object s)) x) (set all n q))
       → Marked l traced w holds e n (bit_at (sem_object s)) x p (λ z. record (recorded p z e) { failed = failed; turns = turns; cleared = cleared }) words homes all
-  sem-marks e n s x b p failed turns cleared words homes all c at low by named may acts says owes = let o : ℕ = sem_object s in let i = bit_at o in let wide = c.sizes.words_wide in
+  sem-marks e n s x b p failed turns cleared words homes all c at low by named none_given may acts says owes = let o : ℕ = sem_object s in let i = bit_at o in let wide = c.sizes.words_wide in
       marks l traced w holds e n i x p (λ z. record (recorded p z e) { failed = failed; turns = turns; cleared = cleared }) words homes all c (record c.spec { avail = put c.spec.avail s b }) at by named may
       record { bits = λ k up z. omega arith; spins = λ k up z. omega arith; lengths = λ k up z. omega arith; ready = λ k up z. omega arith; pen = λ z. omega arith; number = λ z. omega arith }
       (λ z. record { version = refl; seen = refl; mine = refl; places = refl; held = refl; share = refl; spin = refl; queue = refl; owed = refl; stand = refl; pen = refl }) acts
@@ -78,6 +83,7 @@ module _ {T H W : Type 0} (l : Layout) (traced : Bool) (w : W) (begin : W → �
       (λ z. lives-frame all n p (record (recorded p z e) { failed = failed; turns = turns; cleared = cleared }) at words (set words i x) c.sizes.few (lives-stay words i x (λ k up y. omega arith)) refl c.lives)
       (λ z. owes (record (recorded p z e) { failed = failed; turns = turns; cleared = cleared }) refl refl refl)
       (λ z. begun-same words (set words i x) all n p (record (recorded p z e) { failed = failed; turns = turns; cleared = cleared }) at (waits-stay words i x (λ j lo y. omega arith)) refl refl refl c.begun)
+      (λ z. stinted-event all n p (record (recorded p z e) { failed = failed; turns = turns; cleared = cleared }) at e none_given refl (λ m. refl) c.stinted)
 
   p-named : (alertable : Bool) (s : ℕ) → s < l.semaphores → IsNamed l (p_action alertable s)
   p-named true s low = low
@@ -99,7 +105,7 @@ module _ {T H W : Type 0} (l : Layout) (traced : Bool) (w : W) (begin : W → �
       (λ hit.
       let free = zero-shows r (c.spec.avail s) (c.shows.semaphores s low) hit in
       let idle : c.spec.pending n ≡ Nothing = c.shows.pendings.pends n p at ∙ ap pending_of out in
-      let m = sem-marks e n s 1 false p (without o p.failed) (without o p.turns) p.cleared words homes all c at low refl (p-named alertable s named) may (p-acts alertable n s c.spec (c.shows.lives n p at ∙ may.0) idle free) (inr (refl, refl))
+      let m = sem-marks e n s 1 false p (without o p.failed) (without o p.turns) p.cleared words homes all c at low refl (p-named alertable s named) (p-gives alertable s) may (p-acts alertable n s c.spec (c.shows.lives n p at ∙ may.0) idle free) (inr (refl, refl))
       (λ q es et ec. owes-try c.queue words (set words (bit_at o) 1) all n p q at o (λ k lo ne. other words (bit_at o) (bit_at k) 1 (λ z. ne (omega arith))) (λ z. let y = get_or-set_same words (bit_at o) 1 0 (omega arith) in omega arith) es ec et c.owes) in
       (m.0, keeps, tt, subst (λ b. Core l traced w holds (set words (bit_at o) (either b 1 r)) homes (set all n m.0)) (sym (eq-eqb r 0 hit)) m.1, inl (hit, m.2, refl)))
       (λ miss. let q : Part T H = record p { failed = o ∷ p.failed; turns = without o p.turns } in (
@@ -107,7 +113,7 @@ module _ {T H W : Type 0} (l : Layout) (traced : Bool) (w : W) (begin : W → �
         keeps,
         tt,
         subst (λ b. Core l traced w holds (set words (bit_at o) (either b 1 r)) homes (set all n q)) (sym (ne_eqb r 0 miss))
-            (still l traced w holds words homes all (bit_at o) n p q at record { version = refl; life = refl; seen = refl; mine = refl; places = refl; held = refl; share = refl } refl refl refl refl refl refl refl c
+            (still l traced w holds words homes all (bit_at o) n p q at record { version = refl; life = refl; seen = refl; mine = refl; places = refl; held = refl; share = refl; stints = refl; closing = λ m. refl } refl refl refl refl refl refl refl c
             (lines-same (λ k. c.owed k ++ c.queue k) (λ k. c.owed k ++ c.queue k) words words all n p q at c.sizes.few (λ t lo. refl) (λ k. refl) refl c.lines)
             (alert-seen-frame all n p q at words words c.sizes.few (λ k lo. refl) refl c.alert_seen)
             (owes-try c.queue words words all n p q at o (λ k lo ne. refl) miss refl refl refl c.owes)
@@ -130,7 +136,7 @@ module _ {T H W : Type 0} (l : Layout) (traced : Bool) (w : W) (begin : W → �
       (t.0, t.1.0, t.1.1, λ i. (with_part v (t.1.2 i), t.2 i)))
       (λ words homes all c at small.
       let idle : c.spec.pending n ≡ Nothing = c.shows.pendings.pends n p at ∙ ap pending_of out in
-      let m = sem-marks e n s 0 true p p.failed p.turns (o ∷ p.cleared) words homes all c at low refl named may (record { live = c.shows.lives n p at ∙ may.0; order = idle; requires_met = tt; when_met = tt; choice_met = tt }, refl) (inl (refl, refl))
+      let m = sem-marks e n s 0 true p p.failed p.turns (o ∷ p.cleared) words homes all c at low refl named (λ m. refl) may (record { live = c.shows.lives n p at ∙ may.0; order = idle; requires_met = tt; when_met = tt; choice_met = tt }, refl) (inl (refl, refl))
       (λ q es et ec. owes-clear c.queue words (set words (bit_at o) 0) all n p q at o (λ k lo ne. other words (bit_at o) (bit_at k) 0 (λ z. ne (omega arith))) apart es ec et c.owes) in
       (m.0, keeps, tt, m.1, (says-flag (get_or words (bit_at o) 0) (cond (c.spec.avail s) false true) (c.shows.semaphores s low), m.2, refl)))
 

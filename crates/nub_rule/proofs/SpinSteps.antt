@@ -61,7 +61,7 @@ module _ {T H W : Type 0} (l : Layout) (traced : Bool) (w : W) (begin : W → �
         s.home o low free,
         subst (λ b. Core l traced w holds (set words (spin_at o) (either b 1 r)) homes' (set all n q)) (sym (eq-eqb r 0 hit))
             (beside l traced w holds words words' homes homes' all n p q at (length-set words (spin_at o) 1) (length-set homes (queue_at o) none) (bits-stay words (spin_at o) 1 (λ k up z. omega arith)) (lives-stay words (spin_at o) 1 (λ k up z. omega arith)) (λ m. set_else homes (queue_at o) (value_at m) none (λ z. omega arith))
-            record { version = refl; life = refl; seen = refl; mine = refl; places = refl; held = refl; share = refl } (put c.spinner o (some n)) c.writer c.queue c.owed c
+            record { version = refl; life = refl; seen = refl; mine = refl; places = refl; held = refl; share = refl; stints = refl; closing = λ m. refl } (put c.spinner o (some n)) c.writer c.queue c.owed c
             (spins-take c.spinner c.queue c.owed words homes all n p q at s o low c.sizes.words_wide free idle_there refl refl refl)
             (lines-same (λ i. c.owed i ++ c.queue i) (λ i. c.owed i ++ c.queue i) words words' all n p q at few (ready-stay words (spin_at o) 1 (λ k up z. omega arith)) (λ i. refl) refl lines)
             (shows-spin words words' (shown-stay words (spin_at o) 1 (λ k up z. omega arith) (λ k up z. omega arith) (λ k up z. omega arith)) c.spinner c.queue c.owner c.spec all n p q at refl o refl refl refl free (λ k is. no_object k (sym idle_there ∙ (s.spinning n p at k).1 is)) c.shows refl)
@@ -119,7 +119,7 @@ module _ {T H W : Type 0} (l : Layout) (traced : Bool) (w : W) (begin : W → �
         tt,
         subst (λ (z : List (Option (Slot T))). Core l traced w holds words' z (set all n q)) (ap (put_back homes) (sym first))
             (beside l traced w holds words words' homes homes' all n p q at (length-set words (spin_at o) 0) (length-set homes (queue_at o) (some line)) (bits-stay words (spin_at o) 0 (λ k up z. omega arith)) (lives-stay words (spin_at o) 0 (λ k up z. omega arith)) (λ m. set_else homes (queue_at o) (value_at m) (some line) (λ z. omega arith))
-            record { version = refl; life = refl; seen = refl; mine = refl; places = refl; held = refl; share = refl } (put c.spinner o none) c.writer c.queue c.owed c
+            record { version = refl; life = refl; seen = refl; mine = refl; places = refl; held = refl; share = refl; stints = refl; closing = λ m. refl } (put c.spinner o none) c.writer c.queue c.owed c
             (spins-give c.spinner c.queue c.owed words homes all n p q at s o low c.sizes.words_wide (omega arith) here none_owed refl)
             (lines-same (λ i. c.owed i ++ c.queue i) (λ i. c.owed i ++ c.queue i) words words' all n p q at c.sizes.few (ready-stay words (spin_at o) 0 (λ k up z. omega arith)) (λ i. refl) refl c.lines)
             (shows-unspin words words' (shown-stay words (spin_at o) 0 (λ k up z. omega arith) (λ k up z. omega arith) (λ k up z. omega arith)) c.spinner c.queue c.owner c.spec all n p q at refl o refl refl mine.0 (only_here c.spinner c.queue c.owed words homes all n p q at s o here) (even ∙ mine.1) c.shows)

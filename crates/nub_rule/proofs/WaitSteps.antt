@@ -1,5 +1,5 @@
 -- The steps on a mutex's bit in a wait keep the rule: its clearing, and taking it for no event. Nobody holds the mutex since the wait began.
-use Rattle.std.proofs.Common.{Bool, true, cond, eqb, ◌≡◌, ◌≢◌, ℕ, ◌<◌, ◌⊎◌, List, ◌∷◌, ◌++◌, length, get_or, set, refl, sym, ap, ◌∙◌, subst, inl, inr, ⊎_elim, arith, length-set, Some, None, false, eq-eqb, ne_eqb}
+use Rattle.std.proofs.Common.{Bool, true, cond, eqb, ◌≡◌, ◌≢◌, ℕ, ◌<◌, ◌⊎◌, List, [], ◌∷◌, ◌++◌, length, get_or, set, refl, sym, ap, ◌∙◌, subst, inl, inr, ⊎_elim, arith, length-set, Some, None, false, eq-eqb, ne_eqb}
 use prog.Atomic.{either}
 use Rattle.std.specs.Prelude.{Option as Opt}
 use mathlib.Core.Logic.{dite}
@@ -14,15 +14,16 @@ use Rattle.atomic_table.proofs.Lists.{set_else, set_here}
 use Rattle.nub_rule.specs.declared.rule.Slot.{Slot}
 use Rattle.nub_rule.specs.declared.rule.Slot.TheVariants.{Value}
 use Rattle.nub_rule.specs.declared.view.Part.{Part}
+use Rattle.nub_rule.specs.declared.view.Stint.{Stint}
 use Rattle.nub_rule.specs.declared.view.Wait.{Wait}
 use Rattle.nub_rule.specs.declared.view.WaitBit.{WaitBit}
-use Rattle.nub_rule.specs.declared.view.WaitBit.TheVariants.{Open, Quiet}
+use Rattle.nub_rule.specs.declared.view.WaitBit.TheVariants.{Closing, Open, Quiet}
 use Rattle.nub_rule.specs.declared.view.View.{View}
 use Rattle.nub_rule.specs.declared.view.Kind.TheVariants.{Member}
 use Rattle.nub_rule.specs.Items.{Core, Holders, Shows}
-use Rattle.nub_rule.specs.Parts.{Got, Lacks, waits_on, is_open, open_on, pending_of}
+use Rattle.nub_rule.specs.Parts.{Got, Lacks, waits_on, closing_on, is_closing, is_open, open_on, pending_of}
 use Rattle.nub_rule.specs.Places.{bit_at, value_at, queue_at}
-use Rattle.nub_rule.specs.Plays.{Becomes, MayFree, WonQuietly, with_part, opened, quieted, clear_bit_in_wait_records, take_bit_quiet_records}
+use Rattle.nub_rule.specs.Plays.{Becomes, Entered, MayFree, stint, WonQuietly, with_part, opened, quieted, clear_bit_in_wait_records, take_bit_quiet_records}
 use Rattle.nub_rule.specs.Rule.{FitsAs, IsKept}
 use Rattle.nub_rule.proofs.Each.{at_within, at_below, each-set, put-at, put-else}
 use Rattle.nub_rule.proofs.Idle.{idle-waits}
@@ -31,6 +32,7 @@ use Rattle.nub_rule.proofs.Frames.{lives-frame, lives-stay, lived-frame, SameSho
 use Rattle.nub_rule.proofs.SpinSteps.{nobody-by, one-by}
 use Rattle.nub_rule.proofs.Owing.{owes-clear}
 use Rattle.nub_rule.proofs.Beginning.{waits-stay, begun-frame, counted-rebit}
+use Rattle.nub_rule.proofs.Stinting.{closing-else, given, stinted-gives, with_stint}
 use Rattle.nub_rule.proofs.Owning.{lacking, owned-give}
 use Rattle.nub_rule.proofs.Showing.{pendings-put}
 use Rattle.nub_rule.proofs.Conditioning.{conditions-wait}
@@ -72,14 +74,14 @@ module _ {T H : Type 0} (words words' : List ℕ) (spinner : ℕ → Option ℕ)
 
 module _ {T H W : Type 0} (l : Layout) (traced : Bool) (w : W) (begin : W → ℕ → H) (holds : W → List T → List H → Type 0) where
   -- what the thread n leaves that closes the mutex m in a wait
-  abbrev Closes : (H → H) → ℕ → Part T H → List (ℕ × Slot T) → Part T H → List (ℕ × Slot T) → Type 0
-  Closes next m p cs q ds = (s : H) × (p.share ≡ Some s) × (q ≡ record p { held = set p.held m None; share = Some (next s); wait = opened p.wait; cleared = m ∷ p.cleared }) × (ds ≡ rest cs)
+  abbrev Closes : (H → H) → ℕ → ℕ → T → T → Part T H → List (ℕ × Slot T) → Part T H → List (ℕ × Slot T) → Type 0
+  Closes next m n x y p cs q ds = (s : H) × (p.share ≡ Some s) × (q ≡ record p { held = set p.held m None; share = Some (next s); stints = with_stint p n m x y s (next s); wait = opened p.wait; cleared = m ∷ p.cleared }) × (ds ≡ rest cs)
 
   module _ (allows : W → ℕ → ℕ → T → T → H → H → Type 0)
       (law : (values : List T) (shares : List H) → holds w values shares → (m : ℕ) (x y : T) → get_elem? values m ≡ some x → (t : ℕ) (s r : H) → get_elem? shares t ≡ some s → allows w m t x y s r → holds w (set values m y) (set shares t r)) where
-    closes_at : (n m : ℕ) (p : Part T H) (cs : List (ℕ × Slot T)) (x y : T) (b : Wait) (next : H → H) → m < l.mutexes → p.wait ≡ Some b → b.mutex.0 ≡ m → p.stand ≡ None → Got p m x → cs ≡ (value_at m, Value (Some y)) ∷ rest cs → ((s : H) → p.share ≡ Some s → allows w m n x y s (next s))
-        → Steps l traced w begin holds n (bit_at m) (λ _. 0) p cs (λ r q ds. (r ≡ 1) × Closes next m p cs q ds)
-    closes_at n m p cs x y b next inside before on apart got first allowed words homes all c at small =
+    closes_at : (n m : ℕ) (p : Part T H) (cs : List (ℕ × Slot T)) (x y : T) (b : Wait) (next : H → H) → m < l.mutexes → p.wait ≡ Some b → b.mutex.0 ≡ m → b.bit ≡ Closing → p.stand ≡ None → Got p m x → cs ≡ (value_at m, Value (Some y)) ∷ rest cs → ((s : H) → p.share ≡ Some s → allows w m n x y s (next s))
+        → Steps l traced w begin holds n (bit_at m) (λ _. 0) p cs (λ r q ds. (r ≡ 1) × Closes next m n x y p cs q ds)
+    closes_at n m p cs x y b next inside before on shut apart got first allowed words homes all c at small =
         let lawful = c.sizes.lawful in let ws = c.sizes.words_wide in let hs = c.sizes.homes_wide in
         let far : m < 192 = omega arith in
         let o = c.owned in
@@ -89,7 +91,7 @@ module _ {T H W : Type 0} (l : Layout) (traced : Bool) (w : W) (begin : W → �
         let own : c.owner m ≡ some n = (o.standing n p at m).0 (x, got) in
         let here : get_elem? c.values m ≡ some x = o.current n p at m x got in
         let wide : length p.held ≡ 64 = c.sizes.parts_wide n p at in
-        let q : Part T H = record p { held = set p.held m None; share = Some u; wait = opened p.wait; cleared = m ∷ p.cleared } in
+        let q : Part T H = record p { held = set p.held m None; share = Some u; stints = with_stint p n m x y s u; wait = opened p.wait; cleared = m ∷ p.cleared } in
         let words' : List ℕ = set words (bit_at m) 0 in
         let line : Slot T = Value (Some y) in
         let homes' : List (Option (Slot T)) = set homes (value_at m) (some line) in (
@@ -118,25 +120,28 @@ module _ {T H W : Type 0} (l : Layout) (traced : Bool) (w : W) (begin : W → �
             lives = lives-frame all n p q at words words' c.sizes.few (lives-stay words (bit_at m) 0 (λ k up z. omega arith)) refl c.lives;
             owes = owes-clear c.queue words words' all n p q at m (λ k lo ne. other words (bit_at m) (bit_at k) 0 (λ z. ne (omega arith))) apart refl refl refl c.owes;
             begun = begun-frame words words' all n p q at (waits-stay words (bit_at m) 0 (λ j lo y. omega arith)) refl (λ h. counted-rebit p q refl h b Open before (ap opened before) refl) c.begun;
+            stinted = stinted-gives all n p q at m c.log x y s u c.stinted own here mine.2 (law c.values c.shares o.kept m x y here n s u mine.2 (allowed s mine.1)) refl
+                (given all n p q at m true c.stinted own (ap (λ z. closing_on z m) before ∙ (ap (λ g. cond (is_closing g) (eqb b.mutex.0 m) false) shut ∙ eq-eqb b.mutex.0 m on))) (λ j ne. refl) (λ j ne. ap (λ z. closing_on (opened z) j) before ∙ sym (closing-else p.wait b m before on j ne));
           },
           (one-by (get_or words (bit_at m) 0) n (c.owner m) (o.bits m inside) own, (s, mine.1, refl, refl)),
         )
 
-    pub clear_bit_in_wait_keeps : (after : W → ℕ → ℕ → T → T → H → H) (slots id m : ℕ) (b : Wait) (me : Me (Slot T) (View T H W)) (i : ℕ) → i ≡ bit_at m → m < l.mutexes → me.0.kind ≡ Member → me.0.part.wait ≡ Some b → b.mutex.0 ≡ m → me.0.part.stand ≡ None → MayFree allows after m me
+    pub clear_bit_in_wait_keeps : (after : W → ℕ → ℕ → T → T → H → H) (slots id m : ℕ) (b : Wait) (me : Me (Slot T) (View T H W)) (i : ℕ) → i ≡ bit_at m → m < l.mutexes → me.0.kind ≡ Member → me.0.part.wait ≡ Some b → b.mutex.0 ≡ m → b.bit ≡ Closing → me.0.part.stand ≡ None → MayFree allows after m me
         → Allows (IsKept l traced w begin holds) slots id me i (λ _. 0) (clear_bit_in_wait_records after (step slots i 0 0 none) me)
-    clear_bit_in_wait_keeps after slots id m b me i word inside kind before on apart may = subst (λ (i : ℕ). Allows (IsKept l traced w begin holds) slots id me i (λ _. 0) (clear_bit_in_wait_records after (step slots i 0 0 none) me)) (sym word) here
+    clear_bit_in_wait_keeps after slots id m b me i word inside kind before on shut apart may = subst (λ (i : ℕ). Allows (IsKept l traced w begin holds) slots id me i (λ _. 0) (clear_bit_in_wait_records after (step slots i 0 0 none) me)) (sym word) here
       where
         here : Allows (IsKept l traced w begin holds) slots id me (bit_at m) (λ _. 0) (clear_bit_in_wait_records after (step slots (bit_at m) 0 0 none) me)
         here st r wide at small = let v = me.0 in let n = v.number in let p = v.part in let x : T = may.0 in let y : T = may.1 in
             let world : v.world ≡ Some w = (subst (FitsAs l.version l.threads r.given w begin r.all r.seat_of id v) kind (r.fits id v at)).world in
             let next = λ (s : H). after w m n x y s in
-            member_steps l traced w begin holds slots id (bit_at m) (λ _. 0) v me.1 (λ r q ds. (r ≡ 1) × Closes next m p me.1 q ds) (clear_bit_in_wait_records after (step slots (bit_at m) 0 0 none) me) kind
+            member_steps l traced w begin holds slots id (bit_at m) (λ _. 0) v me.1 (λ r q ds. (r ≡ 1) × Closes next m n x y p me.1 q ds) (clear_bit_in_wait_records after (step slots (bit_at m) 0 0 none) me) kind
             (λ r q ds t. idle-waits p q v.child b before (ap (λ (z : Part T H). z.life) t.1.2))
             (λ r q ds world' t' k is. let t = t'.1 in let same : m ≡ k = omega arith in
-            subst (λ (k : ℕ). (r ≡ 1) × (u : Opt H) × ((let z : Me (Slot T) (View T H W) = (with_part v q, ds) in z) ≡ (with_part v (record p { held = set p.held k None; share = u; wait = opened p.wait; cleared = k ∷ p.cleared }), rest me.1))
-            × ((w : W) (s : H) (x y : T) → v.world ≡ Some w → p.share ≡ Some s → Got p k x → me.1 ≡ (value_at k, Value (Some y)) ∷ rest me.1 → u ≡ Some (after w k n x y s))) same (
+            subst (λ (k : ℕ). (r ≡ 1) × (u : Opt H) × (ss : List (Stint T H)) × ((let z : Me (Slot T) (View T H W) = (with_part v q, ds) in z) ≡ (with_part v (record p { held = set p.held k None; share = u; stints = ss; wait = opened p.wait; cleared = k ∷ p.cleared }), rest me.1))
+            × Entered after k me u ss) same (
               t'.0,
               Some (next t.0),
+              with_stint p n m x y t.0 (next t.0),
               (λ i. (with_part v (t.2 i), t.3 i)),
               λ w' s' x' y' is' share' got' first'.
                   let a : Some x ≡ Some x' = some-injective (Some x) (Some x') (sym may.2 ∙ got') in
@@ -146,9 +151,9 @@ module _ {T H W : Type 0} (l : Layout) (traced : Bool) (w : W) (begin : W → �
                   let g : Some w ≡ Some w' = sym world ∙ is' in
                   let h : w ≡ w' = cc in
                   let e = value_same (value_at m) y y' (rest me.1) (sym may.3 ∙ first') in
-                  λ j. Some (after (h j) m n (b j) (e j) (d j)),
+                  ((λ j. Some (after (h j) m n (b j) (e j) (d j))), λ j. p.stints ++ stint after (h j) m n (b j) (e j) (d j) ∷ []),
             ))
-            (closes_at n m p me.1 x y b next inside before on apart may.2 may.3 (λ s is. may.4 w s world is)) st r wide at small
+            (closes_at n m p me.1 x y b next inside before on shut apart may.2 may.3 (λ s is. may.4 w s world is)) st r wide at small
 
   -- what the thread n leaves that takes the mutex m in a wait, for no event
   abbrev TakesQuietly : (W → ℕ → T → ℕ → H → Type 0) → ℕ → ℕ → Part T H → List (ℕ × Slot T) → Part T H → List (ℕ × Slot T) → Type 0
@@ -168,11 +173,12 @@ module _ {T H W : Type 0} (l : Layout) (traced : Bool) (w : W) (begin : W → �
         let x = found.0 in
         let wide : length p.held ≡ 64 = c.sizes.parts_wide n p at in
         let q : Part T H = record p { held = set p.held m (Some x); wait = quieted p.wait; failed = without m p.failed; turns = without m p.turns } in
+        let aside : (j : ℕ) → j ≢ m → closing_on p.wait j ≡ false = closing-else p.wait b m before on in
         let words' : List ℕ = set words (bit_at m) 1 in (
           q,
           takes (value_at m) (Value (Some x)),
           o.at_home m inside x found.1 free,
-          bit_taken l traced w begin holds n m p q x words homes all at inside c hit found.1 record { version = refl; life = refl; held = refl; share = refl; spin = refl; queue = refl; owed = refl; stand = refl; alerted = refl; cleared = refl; turns = refl; raised = refl; counted = λ h. counted-rebit p q refl h b Quiet before (ap quieted before) refl } c.log c.spec c.run
+          bit_taken l traced w begin holds n m p q x words homes all at inside c hit found.1 record { version = refl; life = refl; held = refl; share = refl; spin = refl; queue = refl; owed = refl; stand = refl; alerted = refl; cleared = refl; turns = refl; raised = refl; counted = λ h. counted-rebit p q refl h b Quiet before (ap quieted before) refl; stints = refl; after = λ j. ap (λ z. closing_on (quieted z) j) before; before = aside } c.log c.spec (λ j. refl) c.run
               (recorded-frame all n p q at l c.log refl refl refl c.recorded)
               (shows-rebit words words' c.spinner c.queue c.owner c.spec all n p q at m b Quiet (some n) (λ j is. some-injective j n (sym is)) (λ _. refl) (c.shows.holders.free m free) (shown-stay words (bit_at m) 1 (λ k up z. omega arith) (λ k up z. omega arith) (λ k up z. omega arith)) refl before (ap quieted before) on refl refl refl c.shows)
               (pens-frame all n p q at traced (length c.log) c.writer words words' (pen-stay words (bit_at m) 1 (λ z. omega arith) (λ z. omega arith)) refl c.pens),

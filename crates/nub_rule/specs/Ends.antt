@@ -15,6 +15,7 @@ use Rattle.nub_rule.specs.declared.rule.Slot.TheVariants.{Value, Queue}
 use Rattle.nub_rule.specs.declared.view.Child.TheVariants.{No}
 use Rattle.nub_rule.specs.declared.view.Kind.TheVariants.{Member}
 use Rattle.nub_rule.specs.declared.view.Part.{Part}
+use Rattle.nub_rule.specs.Stints.{StintedToEnd}
 use Rattle.nub_rule.specs.Items.{no_queue, Each, HistoryItem, Shared}
 use Rattle.nub_rule.specs.Parts.{first_part, newborn, number_of}
 use Rattle.nub_rule.specs.Known.{Known, known_as}
@@ -56,6 +57,7 @@ module _ {T H : Type 0} where
     pub kept : holds values shares
     pub each_share : length shares ≡ length parts
     pub shared : Each (Shared shares) parts
+    pub stinted : StintedToEnd holds log values shares parts
 
   -- the same of the values in the slots
   pub record Settles (l : Layout) (holds : List T → List H → Type 0) (parts : List (Part T H)) (xs : List (Slot T)) : Type 0 where

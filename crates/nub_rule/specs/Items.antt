@@ -20,6 +20,7 @@ use Rattle.nub_rule.specs.declared.view.Pen.TheVariants.{No, Taken, Read, Made, 
 use Rattle.nub_rule.specs.Places.{most_threads, bit_at, spin_at, length_at, count_at, alert_at, ready_at, life_at, pen_at, number_at, word_count, queue_at, value_at, sem_object, cond_object}
 use Rattle.nub_rule.specs.Owed.{WakeOwed}
 use Rattle.nub_rule.specs.Begun.{BegunWaits}
+use Rattle.nub_rule.specs.Stints.{Stinted}
 use Rattle.nub_rule.specs.Parts.{Got, Has, stands_at, IsFound, waits_on, open_on, counts_in, number_of, pending_of}
 use Rattle.arrayvec.specs.ArrayVec.{ArrayVec}
 
@@ -257,3 +258,4 @@ module _ {T H : Type 0} where
     pub lives : Lives words all
     pub owes : WakeOwed queue words all
     pub begun : BegunWaits words all
+    pub stinted : Stinted (holds w) log owner values shares all

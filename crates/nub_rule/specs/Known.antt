@@ -28,7 +28,7 @@ use Rattle.nub_rule.specs.Items.{queue_of}
 use Rattle.nub_rule.specs.Objects.{object_of, IsGate}
 use Rattle.nub_rule.specs.Parts.{Got, IsAlerted, IsClear, Lacks, left_turns}
 use Rattle.nub_rule.specs.Places.{most_threads, value_at, queue_at, sem_object, cond_object, word_count}
-use Rattle.nub_rule.specs.Plays.{Sat, Grows, tail_of, less, recounted}
+use Rattle.nub_rule.specs.Plays.{Sat, Grows, tail_of, less, recounted, stint}
 use Rattle.nub_rule.specs.Slots.{find, IsDistinct, Below}
 
 -- what contracts see of a package
@@ -121,6 +121,11 @@ module _ {T H W : Type 0} where
   abbrev pub PicksShare : (W → ℕ → ℕ → T → T → H → H) → ℕ → Known T H W → Known T H W → Type 0
   PicksShare after m a b = (w : W) (s : H) (x y : T) → a.world ≡ Some w → a.share ≡ Some s → Holds a m x → IsIn a m y
       → b.share ≡ Some (after w m a.number x y s)
+
+  -- one stint with the mutex was entered: the thread left the value in the slot
+  abbrev pub EntersStint : (W → ℕ → ℕ → T → T → H → H) → ℕ → Known T H W → Known T H W → Type 0
+  EntersStint after m a b = (w : W) (s : H) (x y : T) → a.world ≡ Some w → a.share ≡ Some s → Holds a m x → IsIn a m y
+      → b.stints ≡ a.stints ++ stint after w m a.number x y s ∷ []
 
   -- the thread is in a wait in the condition, and has read its count and not blocked yet
   abbrev pub HasCounted : Object → Known T H W → Type 0

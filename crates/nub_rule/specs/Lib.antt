@@ -4,6 +4,7 @@ pub mod Slots
 pub mod Parts
 pub mod Owed
 pub mod Begun
+pub mod Stints
 pub mod Items
 pub mod Rule
 pub mod Plays

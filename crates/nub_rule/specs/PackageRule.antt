@@ -1,7 +1,7 @@
 -- THE RULE, in public words: what is true between any two steps of the words, the slots at home and
 -- the views of the threads. The law `laws::the_rule_says` proves it of every state that meets the
 -- invariant.
-use Rattle.std.specs.Prelude.{Bool, Option as Opt, true, false, ◌≡◌, ◌≢◌, ◌↔◌, ◌⊎◌, ℕ, ◌+◌, ◌<◌, ◌≤◌, List, [], ◌++◌, length, slice_index, Some, None}
+use Rattle.std.specs.Prelude.{Bool, Option as Opt, true, false, ◌≡◌, ◌≢◌, ◌↔◌, ◌⊎◌, ℕ, ◌+◌, ◌<◌, ◌≤◌, List, [], ◌∷◌, ◌++◌, length, slice_index, Some, None}
 use mathlib.Core.Option.{Option, some}
 use lib.ListN.{get_elem?}
 use Rattle.larch_actions.specs.declared.event.Layout.{Layout}
@@ -26,8 +26,10 @@ use Rattle.nub_rule.specs.declared.view.Wait.{Wait}
 use Rattle.nub_rule.specs.declared.view.WaitBit.TheVariants.{Closing, Quiet}
 use Rattle.nub_rule.specs.Items.{Each, Distinct, queue_of, places_from}
 use Rattle.nub_rule.specs.Begun.{raisers}
+use Rattle.nub_rule.specs.declared.view.Stint.{Stint}
+use Rattle.nub_rule.specs.Stints.{AreInTurn, StintsLead, givers, stinters, stints_at, stints_by}
 use Rattle.nub_rule.specs.Owed.{HasTurn, IsAsleep, MustLook, SomebodyMustLook}
-use Rattle.nub_rule.specs.Parts.{Got, Has, HasNothing, IsFound, counts_in, first_part, newborn, number_of, pending_of, unborn, waits_on}
+use Rattle.nub_rule.specs.Parts.{Got, Has, HasNothing, IsFound, closing_on, counts_in, first_part, newborn, number_of, pending_of, unborn, waits_on}
 use Rattle.nub_rule.specs.Places.{alert_at, bit_at, cond_object, count_at, length_at, life_at, most_threads, number_at, pen_at, queue_at, ready_at, sem_object, spin_at, value_at, waits_at}
 use Rattle.nub_rule.specs.Rule.{IsKept, IsWith}
 
@@ -223,6 +225,25 @@ module _ {T H : Type 0} where
     pub each_share : length shares ≡ length views
     pub share : Each (λ n p. (s : H) × (p.share ≡ Some s) × (get_elem? shares n ≡ some s)) views
 
+  -- the thread of the view has begun a wait on the mutex m, and has yet to clear its bit
+  abbrev pub HasYetToClear : ℕ → Part T H → Type 0
+  HasYetToClear m p = Has p m × (closing_on p.wait m ≡ true)
+
+  -- VALUES ALONG THE HISTORY: the stints of all threads in one order, which lead from first values
+  -- and shares to those of now, so that each got what the last stint with its mutex left, or the
+  -- first value. Who gives a mutex back in the history is whose stint with it is over, in this
+  -- order, and then whoever has yet to clear its bit
+  pub record ValuesAlong (holds : List T → List H → Type 0) (log : List Event) (views : List (Part T H)) (values : List T) (shares : List H) :
+      Type 0 where
+    pub first : List T
+    pub first_shares : List H
+    pub stints : List (Stint T H)
+    pub lead : StintsLead holds first first_shares stints values shares
+    pub in_turn : (m : ℕ) (x y : T) → get_elem? first m ≡ some x → get_elem? values m ≡ some y → AreInTurn x (stints_at m stints) y
+    pub own : Each (λ n p. stints_by n stints ≡ p.stints) views
+    pub gives : (m : ℕ) → (NoView (HasYetToClear m) views × (givers m log ≡ stinters m stints))
+        ⊎ ((n : ℕ) × ViewIs views n (HasYetToClear m) × (givers m log ≡ stinters m stints ++ n ∷ []))
+
   -- NUMBERING: at most one view has the pen, and in an untraced package none. While the pen is
   -- free, the number word of a traced package is the number of events. The places of a thread are
   -- those of its own events in the history
@@ -261,6 +282,7 @@ module _ {T H : Type 0} where
     pub counts_read : CountsRead words views
     pub begun_waits : BegunWaits words views state
     pub values_and_shares : ValuesAndShares l.mutexes holds homes views values shares
+    pub values_along : ValuesAlong holds log views values shares
     pub numbering : Numbering traced log words views
 
   -- a view without a step of its own: its own events are the same, and what it has seen has stayed or grown

@@ -13,7 +13,7 @@ use Rattle.larch_actions.specs.declared.event.Pending.TheVariants.{Nothing, Wait
 use Rattle.nub_rule.specs.declared.view.Part.{Part}
 use Rattle.nub_rule.specs.declared.view.Wait.{Wait}
 use Rattle.nub_rule.specs.declared.view.WaitBit.{WaitBit}
-use Rattle.nub_rule.specs.declared.view.WaitBit.TheVariants.{Open}
+use Rattle.nub_rule.specs.declared.view.WaitBit.TheVariants.{Closing, Open}
 use Rattle.nub_rule.specs.declared.view.Stand.{Stand}
 use Rattle.nub_rule.specs.declared.view.Stage.{Stage}
 use Rattle.nub_rule.specs.declared.view.Stage.TheVariants.{Pushed, Clear, Tested, Asleep, Alerted, Found}
@@ -99,6 +99,15 @@ abbrev pub open_on : Opt Wait → ℕ → Bool
 open_on None m = false
 open_on (Some w) m = cond (is_open w.bit) (eqb w.mutex.0 m) false
 
+-- the thread is in a wait on the mutex m, in which it has yet to clear the bit
+abbrev pub is_closing : WaitBit → Bool
+is_closing Closing = true
+is_closing _ = false
+
+abbrev pub closing_on : Opt Wait → ℕ → Bool
+closing_on None m = false
+closing_on (Some w) m = cond (is_closing w.bit) (eqb w.mutex.0 m) false
+
 -- the thread is in the condition c by what its view says, if the count is k
 abbrev pub counts_in : Opt Wait → ℕ → ℕ → Bool
 counts_in None c k = false
@@ -150,6 +159,7 @@ module _ {T H : Type 0} where
     places = [];
     held = replicate 64 None;
     share = s;
+    stints = [];
     spin =
         None;
     queue = [];

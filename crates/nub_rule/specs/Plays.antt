@@ -16,6 +16,7 @@ use Rattle.nub_rule.specs.declared.view.Part.{Part}
 use Rattle.nub_rule.specs.declared.view.Pen.TheVariants.{No, Taken, Read, Written}
 use Rattle.nub_rule.specs.declared.view.Stage.TheVariants.{Pushed, Clear, Tested, Asleep, Found}
 use Rattle.nub_rule.specs.declared.view.Stand.{Stand}
+use Rattle.nub_rule.specs.declared.view.Stint.{Stint}
 use Rattle.nub_rule.specs.declared.view.View.{View}
 use Rattle.nub_rule.specs.declared.view.Wait.{Wait}
 use Rattle.nub_rule.specs.declared.view.WaitBit.TheVariants.{Closing, Open, Quiet}
@@ -145,6 +146,11 @@ abbrev pub less : ℕ → List ℕ → List ℕ
 less t [] = []
 less t (x ∷ xs) = cond (eqb x t) xs (x ∷ less t xs)
 
+module _ {T H W : Type 0} where
+  -- the stint of the thread t with the mutex m, in which it got x and left y and its share was s
+  abbrev pub stint : (W → ℕ → ℕ → T → T → H → H) → W → ℕ → ℕ → T → T → H → Stint T H
+  stint after w m t x y s = record { thread = t; mutex = m; got = x; left = y; before = s; after = after w m t x y s }
+
 module _ {T H : Type 0} where
   -- the part after this event of its thread
   abbrev pub recorded : Part T H → List Event → Event → Part T H
@@ -229,16 +235,21 @@ module _ {T H W : Type 0} where
       (m : ℕ) → st.word ≡ bit_at m → (r ≡ 0 → WonQuietly fits m me me')
       × (r ≢ 0 → Becomes me (record p { failed = m ∷ p.failed; turns = without m p.turns }) me')
 
+  -- with the value in the slot of the mutex m the thread has the share that was chosen, and one stint more
+  abbrev pub Entered : (W → ℕ → ℕ → T → T → H → H) → ℕ → Sat T H W → Opt H → List (Stint T H) → Type 0
+  Entered after m me u z = let v = me.0 in let p = v.part in (w : W) (s : H) (x y : T) → v.world ≡ Some w → p.share ≡ Some s → Got p m x
+      → me.1 ≡ (value_at m, Value (Some y)) ∷ rest me.1
+      → (u ≡ Some (after w m v.number x y s)) × (z ≡ p.stints ++ stint after w m v.number x y s ∷ [])
+
   -- the mutex m was released, with its value
   abbrev pub Freed : (W → ℕ → ℕ → T → T → H → H) → ℕ → Sat T H W → ℕ → Sat T H W → Type 0
   Freed after m me r me' = let v = me.0 in let p = v.part in let e = release_event v.number m in
-      (r ≡ 1) × (between : List Event) × (u : Opt H) × Grows v.number p between e
+      (r ≡ 1) × (between : List Event) × (u : Opt H) × (z : List (Stint T H)) × Grows v.number p between e
       × (me' ≡ (
-        with_part v (record (recorded p (p.seen ++ between) e) { held = slice_set p.held m None; share = u; cleared = m ∷ p.cleared }),
+        with_part v (record (recorded p (p.seen ++ between) e)
+            { held = slice_set p.held m None; share = u; stints = z; cleared = m ∷ p.cleared }),
         rest me.1,
-      ))
-      × ((w : W) (s : H) (x y : T) → v.world ≡ Some w → p.share ≡ Some s → Got p m x → me.1 ≡ (value_at m, Value (Some y)) ∷ rest me.1
-      → u ≡ Some (after w m v.number x y s))
+      )) × Entered after m me u z
 
   abbrev pub clear_bit_records : (W → ℕ → ℕ → T → T → H → H) → Step (Slot T) → Sat T H W → ℕ → Sat T H W → Type 0
   clear_bit_records after st me r me' = (m : ℕ) → st.word ≡ bit_at m → Freed after m me r me'
@@ -304,13 +315,11 @@ module _ {T H W : Type 0} where
   -- the start of the wait
   abbrev pub clear_bit_in_wait_records : (W → ℕ → ℕ → T → T → H → H) → Step (Slot T) → Sat T H W → ℕ → Sat T H W → Type 0
   clear_bit_in_wait_records after st me r me' = let v = me.0 in let p = v.part in (m : ℕ) → st.word ≡ bit_at m
-      → (r ≡ 1) × (u : Opt H) × (me'
+      → (r ≡ 1) × (u : Opt H) × (z : List (Stint T H)) × (me'
       ≡ (
-        with_part v (record p { held = slice_set p.held m None; share = u; wait = opened p.wait; cleared = m ∷ p.cleared }),
+        with_part v (record p { held = slice_set p.held m None; share = u; stints = z; wait = opened p.wait; cleared = m ∷ p.cleared }),
         rest me.1,
-      ))
-      × ((w : W) (s : H) (x y : T) → v.world ≡ Some w → p.share ≡ Some s → Got p m x → me.1 ≡ (value_at m, Value (Some y)) ∷ rest me.1
-      → u ≡ Some (after w m v.number x y s))
+      )) × Entered after m me u z
 
   -- the count of the condition c was read to begin a wait, by a thread whose slot of the mutex m is
   -- first

@@ -133,6 +133,10 @@ impl<U: Uses> Thread<U> {
 
     /// Allocates room for `further` more events, so that storing them needs no memory. Fails only
     /// if there is no memory.
+    ///
+    /// ```rust
+    /// threads[at].reserve(further)?;
+    /// ```
     pub fn reserve(&mut self, further: usize) -> Result<(), AllocError>
         ensures { self.new ≡ self.old }
     {

@@ -54,6 +54,17 @@ pub enum Pen {
     Written,
 }
 
+/// What a thread did with a mutex: the value that it got and the one that it left, and its share
+/// before and after.
+pub struct Stint<T, H> {
+    pub thread: u64,
+    pub mutex: u64,
+    pub got: T,
+    pub left: T,
+    pub before: H,
+    pub after: H,
+}
+
 /// What one thread has done and where it stands.
 pub struct Part<T, H> {
     /// Which actions its package has.
@@ -66,6 +77,8 @@ pub struct Part<T, H> {
     /// For each mutex the value got, if the thread has the bit.
     pub held: LinkedList<Option<T>>,
     pub share: Option<H>,
+    /// Its stints with mutexes that are over, in order.
+    pub stints: LinkedList<Stint<T, H>>,
     /// The object whose spin word the thread has, and the queue there.
     pub spin: Option<u64>,
     pub queue: LinkedList<u64>,

@@ -42,6 +42,10 @@ impl Change<SumUses> for AddChange {
 /// Returns the value with which the holder of a mutex releases it, after an addition to the value
 /// that it got. It may be released with `AddChange` while the thread has added little, and the
 /// thread's share then has this much more under the mutex.
+///
+/// ```rust
+/// locked::<SumUses, AddChange, (), _, R>(rt, pkg, &mut me, m, |x| *x = add_to(*x, 1));
+/// ```
 #[inline]
 pub fn add_to(got: u64, amount: u64) -> u64
     requires got { got ≤ 25600000000000 }

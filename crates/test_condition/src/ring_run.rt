@@ -80,6 +80,18 @@ fn end_of(closed: &Closed<Numbers>) -> Option<End> {
     })
 }
 
+/// How many items the last ring of a closed package has.
+fn items_left(closed: Closed<Numbers>) -> usize {
+    let mut rings = closed.into_values();
+    match rings.pop() {
+        Some(ring) => {
+            let items = ring.into_items();
+            items.len()
+        }
+        None => 0,
+    }
+}
+
 /// Lets `threads` threads do their task, all at once. Returns what the package leaves of its ring,
 /// and what each of them left. The closed package is dropped here, so that tests compare where none
 /// is alive.
@@ -95,12 +107,12 @@ pub fn ended<R: Threads + Wait + Sync>(
 {
     let (closed, left) = run(rt, alloc, threads, capacity, what)?;
     let end = end_of(&closed);
-    drop(closed);
+    let items = items_left(closed);
     match end {
-        Some(end) => Ok((end, left)),
-        None => {
+        Some(end) if end.empty == (items == 0) => Ok((end, left)),
+        _ => {
             drop(left);
-            Err(Fail::from("no ring"))
+            Err(Fail::from("no ring, or one that is empty and has items"))
         }
     }
 }

@@ -42,6 +42,21 @@ fn jobs_of<F, T: Drop>(calls: Vec<Call<'_, F, T>>, mut jobs: Vec<T>) -> Vec<T>
 /// are after the first `starts`, and at most all.
 ///
 /// It blocks until each job has ended, for ever where one never does. On `Err` there was no memory: nothing has run, and all comes back.
+///
+/// ```rust
+/// match run_crew(
+///     rt,
+///     alloc,
+///     jobs,
+///     &f,
+///     starts,
+///     (),
+///     |_own: (), held: usize| held,
+/// ) {
+///     Ok(finished) => Ok((all(&finished.results), finished.between)),
+///     Err(_) => Err(AllocError),
+/// }
+/// ```
 pub fn run_crew<
     R: Threads + Wait,
     T: Send + Drop,

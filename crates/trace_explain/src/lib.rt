@@ -14,3 +14,5 @@ mod rules;
 mod sentences;
 
 pub use explanation::explain;
+pub use facts::add_facts;
+pub use rules::rule;

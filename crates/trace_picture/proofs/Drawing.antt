@@ -1,6 +1,5 @@
 -- What holds between two events of a drawing.
 use Rattle.std.proofs.Common.{◌≡◌, ℕ, Bool, ◌+◌, ◌-◌, ◌^◌, ◌<◌, ◌≤◌, inl, inr, List, [], ◌∷◌, ◌++◌, length, take, refl, ap, sym, subst, ◌∙◌, append_assoc, append-nil, Some, None, IfSome, arith}
-use Rattle.std.specs.Prelude.{codes}
 use Rattle.std.specs.Io.KnownBytes.{Appends}
 use Rattle.std.specs.declared.option.Option.{Option}
 use Rattle.std.proofs.KnownBytes.{Appends-trans}
@@ -18,14 +17,14 @@ use Rattle.trace_core.specs.Whole.{Flows}
 use Rattle.trace_core.proofs.Flowing.{Pending, pending_flow, pending_fault}
 use Rattle.trace_check.specs.declared.checker.Summary.{Summary}
 use Rattle.trace_check.specs.declared.checker.Verdict.TheVariants as verdict
-use Rattle.trace_check.specs.Verdicts.{IsPrefixText, refusal}
+use Rattle.trace_check.specs.Verdicts.{IsPrefixText, Counts, refusal}
 use Rattle.trace_check.proofs.UnderWay.{IsUnderWay, few, starts_on, step_on, fails_on, ends_on, prefix_read}
 use Rattle.trace_board.proofs.Extended.{extended-push, length-extended}
 use Rattle.trace_shapes.specs.declared.view.DrawnRange.{DrawnRange}
 use Rattle.trace_board.specs.Tracked.{Tracked, nothing_tracked, tracked_after, tracked_since, extended}
-use Rattle.trace_shapes.specs.Shapes.{with_number}
-use Rattle.trace_picture.specs.Bands.{step_text, failing_text}
-use Rattle.trace_picture.specs.Picture.{head_text, steps_text, prefix_picture, closing_if, last_closing, end_text, failed_note, failed_picture, cut_picture}
+use Rattle.trace_picture.specs.Bands.{step_text}
+use Rattle.trace_picture.specs.Verdicts.{cut_words}
+use Rattle.trace_picture.specs.Picture.{head_text, steps_text, prefix_picture, ending, failed_ending, failed_picture, cut_picture}
 use Rattle.trace_picture.specs.Rings.{IsEnding}
 use Rattle.trace_picture.specs.Drawn.{GotCut, IsDrawn, IsAPicture, IsCutOff}
 
@@ -113,45 +112,43 @@ module _ (budget : ℕ) (left₀ : Option (List ℕ)) (before now : ℕ) (p : Re
         kept_is = turns ∙ (λ i. tracked_after (sym n i) e (d.kept_is i)) ∙ ap tracked_since (sym (extended-push [] es e));
       }
 
-  ends_same : (words : List ℕ) → closing_if p.layout v k count ++ end_text p.layout v k count (with_number words count)
-      ≡ last_closing p.layout v d.under_way.events ++ end_text p.layout v (tracked_since (extended [] d.under_way.events)) (length d.under_way.events) (with_number words (length d.under_way.events))
-  ends_same words =
+  ends_same : ending p.layout v k count cut_words None ≡ ending p.layout v (tracked_since (extended [] d.under_way.events)) (length d.under_way.events) cut_words None
+  ends_same =
       let n = sym d.under_way.counted in
-      λ i. closing_if p.layout v (d.kept_is i) (n i) ++ end_text p.layout v (d.kept_is i) (n i) (with_number words (n i))
+      λ i. ending p.layout v (d.kept_is i) (n i) cut_words None
 
   -- the end that the counts say is that of the events
-  pub legal_end : (on : Bool) (l : Layout) (end : List ℕ) → l ≡ p.layout → IsEnding on l v k count d.under_way.events end
-      → IsEnding on p.layout v (tracked_since (extended [] d.under_way.events)) (length d.under_way.events) d.under_way.events end
-  legal_end on l end same_l h =
+  pub legal_end : (on : Bool) (l : Layout) (s : Summary) (end : List ℕ) → l ≡ p.layout → IsEnding on l v k count s d.under_way.events end
+      → IsEnding on p.layout v (tracked_since (extended [] d.under_way.events)) (length d.under_way.events) s d.under_way.events end
+  legal_end on l s end same_l h =
       let es = d.under_way.events in
-      let laid = subst (λ x. IsEnding on x v k count es end) same_l h in
-      let held = subst (λ x. IsEnding on p.layout v x count es end) d.kept_is laid in
-      subst (λ x. IsEnding on p.layout v (tracked_since (extended [] es)) x es end) (sym d.under_way.counted) held
+      let laid = subst (λ x. IsEnding on x v k count s es end) same_l h in
+      let held = subst (λ x. IsEnding on p.layout v x count s es end) d.kept_is laid in
+      subst (λ x. IsEnding on p.layout v (tracked_since (extended [] es)) x s es end) (sym d.under_way.counted) held
 
   pub legal_pending : (end : List ℕ) → Pending reported₀ reported (kept ++ end) (prefix_picture p.layout v d.under_way.events ++ end) []
   legal_pending end = pending_text reported₀ reported kept (kept ++ end) (prefix_picture p.layout v d.under_way.events) end d.flows refl
 
-  fails_same : (e : Event) (why : Broken) → failing_text p.layout v k count e why ++ end_text p.layout v k (count + 1) (failed_note count e why)
-      ≡ failing_text p.layout v (tracked_since (extended [] d.under_way.events)) (length d.under_way.events) e why ++ end_text p.layout v (tracked_since (extended [] d.under_way.events)) (length d.under_way.events + 1) (failed_note (length d.under_way.events) e why)
+  fails_same : (e : Event) (why : Broken) → failed_ending p.layout v k count e why ≡ failed_ending p.layout v (tracked_since (extended [] d.under_way.events)) (length d.under_way.events) e why
   fails_same e why =
       let n = sym d.under_way.counted in
-      λ i. failing_text p.layout v (d.kept_is i) (n i) e why ++ end_text p.layout v (d.kept_is i) (n i + 1) (failed_note (n i) e why)
+      λ i. failed_ending p.layout v (d.kept_is i) (n i) e why
 
   module _ (end : List ℕ) (reported' : Option (List ℕ)) where
-    pub cut_pending : end ≡ kept ++ (closing_if p.layout v k count ++ end_text p.layout v k count (with_number (codes "the input can't be read further, events: ") count)) → Pending reported₀ reported end (cut_picture p.layout v d.under_way.events) []
+    pub cut_pending : end ≡ kept ++ ending p.layout v k count cut_words None → Pending reported₀ reported end (cut_picture p.layout v d.under_way.events) []
     unfolding cut_picture
     cut_pending text =
         let es = d.under_way.events in
-        pending_text reported₀ reported kept end (prefix_picture p.layout v es) (last_closing p.layout v es ++ end_text p.layout v (tracked_since (extended [] d.under_way.events)) (length es) (with_number (codes "the input can't be read further, events: ") (length es))) d.flows (text ∙ ap (λ x. kept ++ x) (ends_same (codes "the input can't be read further, events: ")))
+        pending_text reported₀ reported kept end (prefix_picture p.layout v es) (ending p.layout v (tracked_since (extended [] es)) (length es) cut_words None) d.flows (text ∙ ap (λ x. kept ++ x) ends_same)
 
-    pub failed_pending : (e : Event) (why : Broken) → end ≡ kept ++ (failing_text p.layout v k count e why ++ end_text p.layout v k (count + 1) (failed_note count e why)) → Pending reported₀ reported end (failed_picture p.layout v d.under_way.events e why) []
+    pub failed_pending : (e : Event) (why : Broken) → end ≡ kept ++ failed_ending p.layout v k count e why → Pending reported₀ reported end (failed_picture p.layout v d.under_way.events e why) []
     unfolding failed_picture
     failed_pending e why text =
         let es = d.under_way.events in
-        pending_text reported₀ reported kept end (prefix_picture p.layout v es) (failing_text p.layout v (tracked_since (extended [] es)) (length es) e why ++ end_text p.layout v (tracked_since (extended [] d.under_way.events)) (length es + 1) (failed_note (length es) e why)) d.flows (text ∙ ap (λ x. kept ++ x) (fails_same e why))
+        pending_text reported₀ reported kept end (prefix_picture p.layout v es) (failed_ending p.layout v (tracked_since (extended [] es)) (length es) e why) d.flows (text ∙ ap (λ x. kept ++ x) (fails_same e why))
 
     -- a sink that failed
-    pub cut_by : (text : List ℕ) → IsAPicture p.layout v d.under_way.events text → AppendsPrefix reported₀ reported' text → (bytes : List ℕ) → left₀ ≡ Some bytes → (w : IsPrefixText budget bytes) × (text : List ℕ) × IsAPicture w.layout v w.events text × AppendsPrefix reported₀ reported' text
+    pub cut_by : (text : List ℕ) → IsAPicture p.layout v d.under_way.events (spec_of m) text → AppendsPrefix reported₀ reported' text → (bytes : List ℕ) → left₀ ≡ Some bytes → (w : IsPrefixText budget bytes) × (text : List ℕ) × IsAPicture w.layout v w.events w.last text × AppendsPrefix reported₀ reported' text
     unfolding prefix_read
     cut_by text is prefix bytes reported_is = (prefix_read budget left₀ before now p m count d.under_way bytes reported_is, text, is, prefix)
 
@@ -182,56 +179,63 @@ module _ (budget : ℕ) (left₀ : Option (List ℕ)) (before now : ℕ) (p : Re
   unfolding cut_picture
   room_cut f =
       let es = d.under_way.events in
-      let ending = last_closing p.layout v es ++ end_text p.layout v (tracked_since (extended [] d.under_way.events)) (length es) (with_number (codes "the input can't be read further, events: ") (length es)) in
-      let more : Pending reported₀ reported kept (cut_picture p.layout v es) ending = (d.flows.0, d.flows.1, ap (λ x. x ++ ending) (d.flows.2 ∙ append-nil (d.flows.0 ++ kept))) in
-      let prefix : AppendsPrefix reported₀ reported' (cut_picture p.layout v es) = pending_fault reported₀ reported reported' kept (cut_picture p.layout v es) ending more f in
+      let tail = ending p.layout v (tracked_since (extended [] es)) (length es) cut_words None in
+      let more : Pending reported₀ reported kept (cut_picture p.layout v es) tail = (d.flows.0, d.flows.1, ap (λ x. x ++ tail) (d.flows.2 ∙ append-nil (d.flows.0 ++ kept))) in
+      let prefix : AppendsPrefix reported₀ reported' (cut_picture p.layout v es) = pending_fault reported₀ reported reported' kept (cut_picture p.layout v es) tail more f in
       if_some left₀ _ (cut_by budget left₀ before now p m count v reported₀ reported kept k d end reported' (cut_picture p.layout v es) (inr (inl refl)) prefix)
 
-  pub refused_got : (f : TextFault) → end ≡ kept ++ (closing_if l v k count ++ end_text l v k count (with_number (codes "the input can't be read further, events: ") count)) → Appends reported reported' end → IsDrawn budget v left₀ reported₀ reported' (refusal f)
+  pub refused_got : (f : TextFault) → end ≡ kept ++ ending l v k count cut_words None → Appends reported reported' end → IsDrawn budget v left₀ reported₀ reported' (refusal f)
   unfolding prefix_read
   refused_got f text a =
-      let sent = pending_sent reported₀ reported reported' end (cut_picture p.layout v d.under_way.events) (cut_pending budget left₀ before now p m count v reported₀ reported kept k d end reported' (subst (λ x. end ≡ kept ++ (closing_if x v k count ++ end_text x v k count (with_number (codes "the input can't be read further, events: ") count))) same_l text)) a in
+      let sent = pending_sent reported₀ reported reported' end (cut_picture p.layout v d.under_way.events) (cut_pending budget left₀ before now p m count v reported₀ reported kept k d end reported' (subst (λ x. end ≡ kept ++ ending x v k count cut_words None) same_l text)) a in
       refused_drawn budget v left₀ reported₀ reported' f (if_some left₀ _ (λ bytes reported_is. inr (prefix_read budget left₀ before now p m count d.under_way bytes reported_is, sent)))
 
-  pub refused_cut : end ≡ kept ++ (closing_if l v k count ++ end_text l v k count (with_number (codes "the input can't be read further, events: ") count)) → AppendsPrefix reported reported' end → IsCutOff budget v left₀ reported₀ reported'
+  pub refused_cut : end ≡ kept ++ ending l v k count cut_words None → AppendsPrefix reported reported' end → IsCutOff budget v left₀ reported₀ reported'
   refused_cut text f =
       let es = d.under_way.events in
-      let prefix = pending_fault reported₀ reported reported' end (cut_picture p.layout v es) [] (cut_pending budget left₀ before now p m count v reported₀ reported kept k d end reported' (subst (λ x. end ≡ kept ++ (closing_if x v k count ++ end_text x v k count (with_number (codes "the input can't be read further, events: ") count))) same_l text)) f in
+      let prefix = pending_fault reported₀ reported reported' end (cut_picture p.layout v es) [] (cut_pending budget left₀ before now p m count v reported₀ reported kept k d end reported' (subst (λ x. end ≡ kept ++ ending x v k count cut_words None) same_l text)) f in
       if_some left₀ _ (cut_by budget left₀ before now p m count v reported₀ reported kept k d end reported' (cut_picture p.layout v es) (inr (inl refl)) prefix)
 
-  pub legal_cut : (tail : List ℕ) → IsEnding v.ordered l v k count d.under_way.events tail → AppendsPrefix reported reported' (kept ++ tail) → IsCutOff budget v left₀ reported₀ reported'
-  legal_cut tail h f =
+  pub legal_cut : (s : Summary) → s.events ≡ count → s.held ≡ held m.layout (spec_of m) → s.waiting ≡ waiting m.layout (spec_of m) → s.alerted ≡ alerted m.layout (spec_of m)
+      → (tail : List ℕ) → IsEnding v.ordered l v k count s d.under_way.events tail → AppendsPrefix reported reported' (kept ++ tail) → IsCutOff budget v left₀ reported₀ reported'
+  legal_cut s a b c e tail h f =
       let es = d.under_way.events in
       let all = prefix_picture p.layout v es ++ tail in
       let prefix = pending_fault reported₀ reported reported' (kept ++ tail) all [] (legal_pending budget left₀ before now p m count v reported₀ reported kept k d tail) f in
-      let tail_is = legal_end budget left₀ before now p m count v reported₀ reported kept k d v.ordered l tail same_l h in
-      if_some left₀ _ (cut_by budget left₀ before now p m count v reported₀ reported kept k d end reported' all (inl (tail, tail_is, refl)) prefix)
+      let tail_is = legal_end budget left₀ before now p m count v reported₀ reported kept k d v.ordered l s tail same_l h in
+      let counts : Counts p.layout es (spec_of m) s = record {
+        events = a ∙ sym d.under_way.counted;
+        held = b ∙ ap (λ x. held x (spec_of m)) d.under_way.layout;
+        waiting = c ∙ ap (λ x. waiting x (spec_of m)) d.under_way.layout;
+        alerted = e ∙ ap (λ x. alerted x (spec_of m)) d.under_way.layout;
+      } in
+      if_some left₀ _ (cut_by budget left₀ before now p m count v reported₀ reported kept k d end reported' all (inl (s, counts, (tail, tail_is, refl))) prefix)
 
-  pub failed_cut : (e : Event) (why : Broken) → end ≡ kept ++ (failing_text l v k count e why ++ end_text l v k (count + 1) (failed_note count e why)) → AppendsPrefix reported reported' end → IsCutOff budget v left₀ reported₀ reported'
+  pub failed_cut : (e : Event) (why : Broken) → end ≡ kept ++ failed_ending l v k count e why → AppendsPrefix reported reported' end → IsCutOff budget v left₀ reported₀ reported'
   failed_cut e why text f =
       let es = d.under_way.events in
-      let prefix = pending_fault reported₀ reported reported' end (failed_picture p.layout v es e why) [] (failed_pending budget left₀ before now p m count v reported₀ reported kept k d end reported' e why (subst (λ x. end ≡ kept ++ (failing_text x v k count e why ++ end_text x v k (count + 1) (failed_note count e why))) same_l text)) f in
+      let prefix = pending_fault reported₀ reported reported' end (failed_picture p.layout v es e why) [] (failed_pending budget left₀ before now p m count v reported₀ reported kept k d end reported' e why (subst (λ x. end ≡ kept ++ failed_ending x v k count e why) same_l text)) f in
       if_some left₀ _ (cut_by budget left₀ before now p m count v reported₀ reported kept k d end reported' (failed_picture p.layout v es e why) (inr (inr (e, why, refl))) prefix)
 
 pub legal_got : (budget : ℕ) (left₀ : Option (List ℕ)) (before now : ℕ) (p p' : ReaderState) (m : Moment) (count : ℕ) (v : DrawnRange) (reported₀ reported : Option (List ℕ)) (kept : List ℕ) (k : Tracked) (d : IsDrawing budget left₀ before p now m count v reported₀ reported kept k) (end : List ℕ) (reported' : Option (List ℕ)) (l : Layout) (s : Summary) → l ≡ p.layout
     → budget < 2 ^ 64 - 1 → TakesEnd p p' → s.events ≡ count → s.held ≡ held m.layout (spec_of m) → s.waiting ≡ waiting m.layout (spec_of m) → s.alerted ≡ alerted m.layout (spec_of m)
-    → IsEnding v.ordered l v k count d.under_way.events end → Appends reported reported' (kept ++ end) → IsDrawn budget v left₀ reported₀ reported' (verdict.Legal s)
+    → IsEnding v.ordered l v k count s d.under_way.events end → Appends reported reported' (kept ++ end) → IsDrawn budget v left₀ reported₀ reported' (verdict.Legal s)
 unfolding ends_on
 legal_got budget None before now p p' m count v reported₀ reported kept k d end reported' l s same_l fits t a b c e h sent = tt
 legal_got budget (Some bytes) before now p p' m count v reported₀ reported kept k d end reported' l s same_l fits t a b c e h sent = (
   ends_on budget (Some bytes) before now p p' m count s fits d.under_way t a b c e,
   prefix_picture p.layout v d.under_way.events ++ end,
-  (end, legal_end budget (Some bytes) before now p m count v reported₀ reported kept k d v.ordered l end same_l h, refl),
+  (end, legal_end budget (Some bytes) before now p m count v reported₀ reported kept k d v.ordered l s end same_l h, refl),
   pending_sent reported₀ reported reported' (kept ++ end) (prefix_picture p.layout v d.under_way.events ++ end) (legal_pending budget (Some bytes) before now p m count v reported₀ reported kept k d end) sent,
 )
 
 pub failed_got : (budget : ℕ) (left₀ : Option (List ℕ)) (before now : ℕ) (p p' : ReaderState) (m : Moment) (count : ℕ) (v : DrawnRange) (reported₀ reported : Option (List ℕ)) (kept : List ℕ) (k : Tracked) (d : IsDrawing budget left₀ before p now m count v reported₀ reported kept k) (end : List ℕ) (reported' : Option (List ℕ)) (l : Layout) (e : Event) (why : Broken) → l ≡ p.layout
-    → TakesEvent p p' e → Fails (spec_of m) e why → end ≡ kept ++ (failing_text l v k count e why ++ end_text l v k (count + 1) (failed_note count e why)) → Appends reported reported' end → IsDrawn budget v left₀ reported₀ reported' (verdict.Illegal count why)
+    → TakesEvent p p' e → Fails (spec_of m) e why → end ≡ kept ++ failed_ending l v k count e why → Appends reported reported' end → IsDrawn budget v left₀ reported₀ reported' (verdict.Illegal count why)
 unfolding fails_on
 failed_got budget None before now p p' m count v reported₀ reported kept k d end reported' l e why same_l t f text sent = tt
 failed_got budget (Some bytes) before now p p' m count v reported₀ reported kept k d end reported' l e why same_l t f text sent = (
   fails_on budget (Some bytes) before now p p' m count e why d.under_way t f,
-  pending_sent reported₀ reported reported' end (failed_picture p.layout v d.under_way.events e why) (failed_pending budget (Some bytes) before now p m count v reported₀ reported kept k d end reported' e why (subst (λ x. end ≡ kept ++ (failing_text x v k count e why ++ end_text x v k (count + 1) (failed_note count e why))) same_l text)) sent,
+  pending_sent reported₀ reported reported' end (failed_picture p.layout v d.under_way.events e why) (failed_pending budget (Some bytes) before now p m count v reported₀ reported kept k d end reported' e why (subst (λ x. end ≡ kept ++ failed_ending x v k count e why) same_l text)) sent,
 )
 
 pub take_none : (xs : List ℕ) → take 0 xs ≡ []

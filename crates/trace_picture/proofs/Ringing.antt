@@ -24,8 +24,8 @@ use Rattle.trace_picture.specs.Picture.{head_text}
 use Rattle.trace_picture.specs.Bands.{step_text}
 use Rattle.trace_shapes.specs.Places.{band_of, event_x}
 use Rattle.trace_shapes.specs.Shapes.{with_number}
-use Rattle.trace_picture.specs.Rings.{ring_y, ring_text}
-use Rattle.trace_shapes.proofs.Added.{added_five}
+use Rattle.trace_picture.specs.Rings.{ring_y, ring_text, nesting_text}
+use Rattle.trace_shapes.proofs.Added.{added_six}
 use Rattle.trace_picture.proofs.Drawing.{IsDrawing, drawing_starts, drawing_room, drawing_steps}
 
 -- so far these events were read and drawn, and where that is wanted it is kept what they nest
@@ -80,16 +80,28 @@ one_near bound (x ∷ ns) zero n lt is h = subst (λ (y : Edge). y.place < bound
 one_near bound (x ∷ ns) (suc k) n lt is h = one_near bound ns k n (omega arith) is h.1
 
 -- one more text
+pub texts_at : {T : Type 0} (f : T → List ℕ) (ns : List T) (k : ℕ) (n : T) → k < length ns → flat_map f (take k ns) ++ f (get_or ns k n) ≡ flat_map f (take (k + 1) ns)
+texts_at f ns k n lt =
+    ap (λ l. flat_map f (take k ns) ++ l) (sym (append-nil (f (get_or ns k n)))) ∙ sym (flat_map-append f (take k ns) (get_or ns k n ∷ []))
+    ∙ ap (flat_map f) (sym (take_more ns k n lt))
+
 pub texts_more : (f : Edge → List ℕ) (ns : List Edge) (k : ℕ) (n : Edge) → k < length ns → n ≡ get_or ns k n → flat_map f (take k ns) ++ f n ≡ flat_map f (take (k + 1) ns)
-texts_more f ns k n lt is =
-    ap (λ l. flat_map f (take k ns) ++ l) (sym (append-nil (f n))) ∙ sym (flat_map-append f (take k ns) (n ∷ []))
-    ∙ ap (λ x. flat_map f (take k ns ++ x ∷ [])) is ∙ ap (flat_map f) (sym (take_more ns k n lt))
+texts_more f ns k n lt is = ap (λ x. flat_map f (take k ns) ++ f x) is ∙ texts_at f ns k n lt
 
 -- the pieces of a ring
-pub added_ring : (l : Layout) (v : DrawnRange) (n : Edge) (x y m k : ℕ) (old a b c d e : List ℕ) → x ≡ event_x (band_of l v n.place) n.place → y ≡ ring_y l v n → m ≡ n.outer.0 → k ≡ n.inner.0
-    → a ≡ old ++ with_number (codes "<rect class='c' width='22' height='15' rx='3' x='") x → b ≡ a ++ with_number (codes "' y='") y → c ≡ b ++ with_number (codes "'><title>m") m
-    → d ≡ c ++ with_number (codes " then m") k → e ≡ d ++ codes "</title></rect>\n" → e ≡ old ++ ring_text l v n
+pub added_ring : (l : Layout) (v : DrawnRange) (n : Edge) (x y m k : ℕ) (old a b c d e f : List ℕ) → x ≡ event_x (band_of l v n.place) n.place → y ≡ ring_y l v n → m ≡ n.outer.0 → k ≡ n.inner.0
+    → a ≡ old ++ with_number (codes "<rect class='c' id='e") n.place → b ≡ a ++ with_number (codes "' width='22' height='15' rx='3' x='") x → c ≡ b ++ with_number (codes "' y='") y
+    → d ≡ c ++ with_number (codes "'><title>m") m → e ≡ d ++ with_number (codes " then m") k → f ≡ e ++ codes "</title></rect>\n" → f ≡ old ++ ring_text l v n
 unfolding ring_text
-added_ring l v n x y m k old a b c d e ex ey em ek one two three four five =
-    added_five old a b c _ _ _ _ _ one two three d e four five
-    ∙ (λ i. old ++ (with_number (codes "<rect class='c' width='22' height='15' rx='3' x='") (ex i) ++ with_number (codes "' y='") (ey i) ++ with_number (codes "'><title>m") (em i) ++ with_number (codes " then m") (ek i) ++ codes "</title></rect>\n"))
+added_ring l v n x y m k old a b c d e f ex ey em ek one two three four five six =
+    added_six old a b c _ _ _ _ _ one two three d e f _ four five six
+    ∙ (λ i. old ++ (with_number (codes "<rect class='c' id='e") n.place ++ with_number (codes "' width='22' height='15' rx='3' x='") (ex i) ++ with_number (codes "' y='") (ey i) ++ with_number (codes "'><title>m") (em i) ++ with_number (codes " then m") (ek i) ++ codes "</title></rect>\n"))
+
+-- the pieces of a step of a cycle
+pub added_nesting : (n : Edge) (m k t : ℕ) (old a b c d e f : List ℕ) → m ≡ n.outer.0 → k ≡ n.inner.0 → t ≡ n.thread.0
+    → a ≡ old ++ with_number (codes ", <a href='#e") n.place → b ≡ a ++ with_number (codes "'>m") m → c ≡ b ++ with_number (codes " then m") k
+    → d ≡ c ++ with_number (codes " by t") t → e ≡ d ++ with_number (codes " at event ") n.place → f ≡ e ++ codes "</a>" → f ≡ old ++ nesting_text n
+unfolding nesting_text
+added_nesting n m k t old a b c d e f em ek et one two three four five six =
+    added_six old a b c _ _ _ _ _ one two three d e f _ four five six
+    ∙ (λ i. old ++ (with_number (codes ", <a href='#e") n.place ++ with_number (codes "'>m") (em i) ++ with_number (codes " then m") (ek i) ++ with_number (codes " by t") (et i) ++ with_number (codes " at event ") n.place ++ codes "</a>"))

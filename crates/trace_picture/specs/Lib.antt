@@ -2,6 +2,7 @@ pub mod Lives
 pub mod Overview
 pub mod Bands
 pub mod Longest
+pub mod Verdicts
 pub mod Picture
 pub mod Rings
 pub mod Drawn

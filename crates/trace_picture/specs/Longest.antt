@@ -26,7 +26,7 @@ abbrev pub line_x : ℕ → ℕ
 line_x m = LEFT + 400 * (m % 3)
 
 abbrev pub line_y : ℕ → ℕ → ℕ
-line_y low m = low + 22 + LINE * (m / 3)
+line_y low m = low + 8 + LINE * (m / 3)
 
 -- a bar of the mutex, as it looks
 unfoldable pub sample_text : ℕ → ℕ → List ℕ

@@ -57,7 +57,7 @@ over_height l v n = if nat_lt 10 (bands v n) then (bands v n + 99) / 100 * colum
 abbrev pub over_style : Layout → DrawnRange → ℕ → List ℕ
 over_style l v n =
     if nat_lt 10 (bands v n) then
-    with_number (codes "px}.w{transform:translate(0,") (over_height l v n)
+    with_number (codes "px)}.w{transform:translate(0,") (over_height l v n)
     ++ with_number (codes "px)}.u{display:inline;transform:translate(0,112px) translate(0,-") (over_height l v n)
     ++ codes "px)}</style>\n</svg>\n"
-    else codes "px}</style>\n</svg>\n"
+    else codes "px)}</style>\n</svg>\n"

@@ -1,16 +1,20 @@
 -- The picture of a trace.
-use Rattle.std.specs.Prelude.{ℕ, ◌+◌, ◌-◌, nat_lt, min, if◌then◌else◌, List, [], ◌∷◌, ◌++◌, length, codes}
+use Rattle.std.specs.Prelude.{ℕ, ◌+◌, nat_lt, if◌then◌else◌, List, [], ◌∷◌, ◌++◌, length, codes, None}
+use Rattle.std.specs.declared.option.Option.{Option}
 use Rattle.larch_actions.specs.declared.event.Layout.{Layout}
 use Rattle.larch_actions.specs.declared.event.Event.{Event}
 use Rattle.larch_actions.specs.declared.event.Broken.{Broken}
 use Rattle.trace_shapes.specs.declared.view.DrawnRange.{DrawnRange}
+use Rattle.trace_check.specs.declared.checker.Summary.{Summary}
 use Rattle.trace_board.specs.Tracked.{Tracked, tracked_since, extended}
 use Rattle.trace_shapes.specs.Places.{is_open, band_of, height_of}
-use Rattle.trace_shapes.specs.Shapes.{with_number, each_below, line_of, clause_word}
+use Rattle.trace_shapes.specs.Shapes.{with_number, each_below}
 use Rattle.trace_shapes.specs.Legend.{entry_at, life_legend}
 use Rattle.trace_picture.specs.Longest.{holds_text, holds_height}
 use Rattle.trace_picture.specs.Overview.{over_height, over_style}
 use Rattle.trace_picture.specs.Bands.{step_text, failing_text, closing}
+use Rattle.trace_picture.specs.Verdicts.{cut_words, counted_line, refusal}
+use Rattle.trace_picture.specs.declared.verdicts.TheConstants.{ONE_LINE, THREE_LINES}
 
 unfoldable pub style_text : List ℕ
 style_text =
@@ -18,7 +22,7 @@ style_text =
 
 unfoldable pub pattern_text : List ℕ
 pattern_text =
-    codes ".u{display:none}.e{fill:#fff;stroke:#57606a;stroke-dasharray:3 2}.f{fill:#cf222e}.f+.i,.ft,.fe{fill:#fff}.ft,.fe{font-weight:bold;filter:url(#t)}.fe{text-anchor:end}.fl{stroke:#cf222e;stroke-width:2}.u0{fill:#57606a}.u1{fill:#c9ced5}.a{fill:none;stroke:#a02c6b;stroke-width:1.6;marker-end:url(#a)}.q{fill:none;stroke:#fff;stroke-width:4}.c{fill:none;stroke:#cf222e;stroke-width:3}\n@media (prefers-color-scheme:dark){text{fill:#e6edf3}.p,.z{fill:#0d1117}.r{fill:#1c2128}.n{fill:#9198a1}.l{stroke:#30363d}.q{stroke:#0d1117}.a{stroke:#ff8fc7}.ar{fill:#ff8fc7}.i,.s1,.s2,.s3,.x{fill:#1f2328}.m1+.x,.f+.i,.ft,.fe{fill:#fff}.hx{fill:#e6edf3;stroke:#0d1117}.hb{fill:#22272e}.d{fill:#5c4f17}.u0{fill:#adb5bd}.u1{fill:#3d444d}}\n</style>\n" ++ codes "<defs><pattern id='h' width='5' height='5' patternUnits='userSpaceOnUse' patternTransform='rotate(45)'><rect class='hb' width='5' height='5' fill='#fff'/><rect width='2' height='5' fill='#b4bcc5'/></pattern>\n" ++ codes "<marker id='a' viewBox='0 0 6 6' refX='5' refY='3' markerWidth='7' markerHeight='7' markerUnits='userSpaceOnUse' orient='auto'><path class='ar' d='M0 0L6 3L0 6z' fill='#a02c6b'/></marker><filter id='t' x='-.05' y='-.15' width='1.1' height='1.3'><feFlood flood-color='#cf222e'/><feComposite in='SourceGraphic'/></filter></defs>\n" ++ codes "<rect class='p' width='100%' height='100%'/>\n"
+    codes ".u{display:none}.e{fill:#fff;stroke:#57606a;stroke-dasharray:3 2}.f{fill:#cf222e}.f+.i,.ft,.fe{fill:#fff}.ft,.fe{font-weight:bold;filter:url(#t)}.fe{text-anchor:end}.fl{stroke:#cf222e;stroke-width:2}.u0{fill:#57606a}.u1{fill:#c9ced5}.a{fill:none;stroke:#a02c6b;stroke-width:1.6;marker-end:url(#a)}.q{fill:none;stroke:#fff;stroke-width:4}.c{fill:none;stroke:#cf222e;stroke-width:3}.hd{font-size:13px}.ok,.no,.at{font-weight:bold}.ok{fill:#1a7f37}.no{fill:#cf222e}.at{fill:#9a6700}\n@media (prefers-color-scheme:dark){text{fill:#e6edf3}.p,.z{fill:#0d1117}.r{fill:#1c2128}.n{fill:#9198a1}.l{stroke:#30363d}.q{stroke:#0d1117}.a{stroke:#ff8fc7}.ar{fill:#ff8fc7}.i,.s1,.s2,.s3,.x{fill:#1f2328}.m1+.x,.f+.i,.ft,.fe{fill:#fff}.hx{fill:#e6edf3;stroke:#0d1117}.hb{fill:#22272e}.d{fill:#5c4f17}.u0{fill:#adb5bd}.u1{fill:#3d444d}.ok{fill:#3fb950}.no{fill:#ff7b72}.at{fill:#e3b341}}\n</style>\n" ++ codes "<defs><pattern id='h' width='5' height='5' patternUnits='userSpaceOnUse' patternTransform='rotate(45)'><rect class='hb' width='5' height='5' fill='#fff'/><rect width='2' height='5' fill='#b4bcc5'/></pattern>\n" ++ codes "<marker id='a' viewBox='0 0 6 6' refX='5' refY='3' markerWidth='7' markerHeight='7' markerUnits='userSpaceOnUse' orient='auto'><path class='ar' d='M0 0L6 3L0 6z' fill='#a02c6b'/></marker><filter id='t' x='-.05' y='-.15' width='1.1' height='1.3'><feFlood flood-color='#cf222e'/><feComposite in='SourceGraphic'/></filter></defs>\n" ++ codes "<rect class='p' width='100%' height='100%'/>\n<g class='s'>\n"
 
 -- what is no mark: the arrows, the bars and a wait
 unfoldable pub other_words : List ℕ
@@ -59,53 +63,33 @@ steps_text l v past (e ∷ es) = step_text l v (tracked_since past) (length past
 unfoldable pub prefix_picture : Layout → DrawnRange → List Event → List ℕ
 prefix_picture l v es = head_text l ++ steps_text l v [] es
 
--- which of the first n events were drawn
-unfoldable pub part_text : DrawnRange → ℕ → List ℕ
-part_text v n =
-    if nat_lt v.first (min n v.end) then with_number (codes ", drawn: ") v.first ++ with_number (codes " to ") (min n v.end - 1)
-    else codes ", drawn: none"
+-- the height, by how much the words at the top move the rest down, what shows the overview, and the last tag
+abbrev pub last_tags : Layout → DrawnRange → ℕ → ℕ → List ℕ
+last_tags l v n words =
+    with_number (codes "<style>:root{height:") (height_of l v n + 14 + holds_height l.mutexes + over_height l v n + words)
+    ++ with_number (codes "px}.s{transform:translate(0,") words ++ over_style l v n
 
--- the note, the lines of the mutexes, the height, what shows the overview, and the last tag
-unfoldable pub end_text : Layout → DrawnRange → Tracked → ℕ → List ℕ → List ℕ
-end_text l v k n note =
-    with_number (codes "<text x='44' y='") (height_of l v n + 14) ++ (codes "'>" ++ note) ++ part_text v n ++ codes "</text>\n"
-    ++ holds_text l.mutexes k n (height_of l v n)
-    ++ (with_number (codes "</g>\n<style>:root{height:") (height_of l v n + 28 + holds_height l.mutexes + over_height l v n)
-    ++ over_style l v n)
+-- the lines of the mutexes, the words at the top, which are so high, and what follows them
+unfoldable pub end_text : Layout → DrawnRange → Tracked → ℕ → ℕ → List ℕ → List ℕ
+end_text l v k n high words =
+    holds_text l.mutexes k n (height_of l v n) ++ codes "</g></g>\n" ++ words ++ last_tags l v n high
 
 -- the end of the last band after n events, where it is not full
 unfoldable pub closing_if : Layout → DrawnRange → Tracked → ℕ → List ℕ
 closing_if l v k n = if is_open v n then closing l v (band_of l v n) k n else []
 
-abbrev pub last_closing : Layout → DrawnRange → List Event → List ℕ
-last_closing l v es = closing_if l v (tracked_since (extended [] es)) (length es)
-
--- which clause the event n fails, and its line
-unfoldable pub failed_note : ℕ → Event → Broken → List ℕ
-failed_note n e why = codes "illegal, fails " ++ clause_word why ++ codes ": " ++ line_of n e
-
--- the end of the picture of n events, with these words and their count on its last line
-abbrev pub ending : Layout → DrawnRange → Tracked → ℕ → List ℕ → List ℕ
-ending l v k n words = closing_if l v k n ++ end_text l v k n (with_number words n)
+-- the end of the picture of n events, with these words, their count and what is left at its top
+abbrev pub ending : Layout → DrawnRange → Tracked → ℕ → List ℕ → Option Summary → List ℕ
+ending l v k n words left = closing_if l v k n ++ end_text l v k n ONE_LINE (counted_line v n words left)
 
 -- the event n, which fails, and the end of the picture
 abbrev pub failed_ending : Layout → DrawnRange → Tracked → ℕ → Event → Broken → List ℕ
-failed_ending l v k n e why = failing_text l v k n e why ++ end_text l v k (n + 1) (failed_note n e why)
-
-abbrev pub legal_words : List ℕ
-legal_words = codes "legal, events: "
-
-abbrev pub cut_words : List ℕ
-cut_words = codes "the input can't be read further, events: "
+failed_ending l v k n e why = failing_text l v k n e why ++ end_text l v k (n + 1) THREE_LINES (refusal l.version v k n e why)
 
 -- the picture of a trace up to the event that fails
 unfoldable pub failed_picture : Layout → DrawnRange → List Event → Event → Broken → List ℕ
-failed_picture l v es e why =
-    prefix_picture l v es ++ (failing_text l v (tracked_since (extended [] es)) (length es) e why
-    ++ end_text l v (tracked_since (extended [] es)) (length es + 1) (failed_note (length es) e why))
+failed_picture l v es e why = prefix_picture l v es ++ failed_ending l v (tracked_since (extended [] es)) (length es) e why
 
 -- the picture of the events of an input that can't be read further
 unfoldable pub cut_picture : Layout → DrawnRange → List Event → List ℕ
-cut_picture l v es =
-    prefix_picture l v es ++ (last_closing l v es ++ end_text l v (tracked_since (extended [] es)) (length es)
-    (with_number (codes "the input can't be read further, events: ") (length es)))
+cut_picture l v es = prefix_picture l v es ++ ending l v (tracked_since (extended [] es)) (length es) cut_words None

@@ -1,5 +1,5 @@
 -- The rings around the events of a cycle of the lock order, and how the picture of a legal trace ends.
-use Rattle.std.specs.Prelude.{◌≡◌, ◌⊎◌, ℕ, ◌+◌, if◌then◌else◌, Bool, true, false, List, [], ◌++◌, length, codes, Result, OnOk, OnErr}
+use Rattle.std.specs.Prelude.{◌≡◌, ◌⊎◌, ℕ, ◌+◌, if◌then◌else◌, Bool, true, false, List, [], ◌++◌, length, codes, Some, Result, OnOk, OnErr}
 use Rattle.std.specs.List.{flat_map}
 use Rattle.std.specs.Io.KnownBytes.{Appends}
 use Rattle.std.specs.declared.option.Option.{Option}
@@ -7,6 +7,7 @@ use Rattle.firefly_outside.specs.Causes.{AppendsPrefix}
 use Rattle.larch_actions.specs.declared.event.Layout.{Layout}
 use Rattle.larch_actions.specs.declared.event.Event.{Event}
 use Rattle.larch_actions.specs.Actions.{Spec}
+use Rattle.trace_check.specs.declared.checker.Summary.{Summary}
 use Rattle.lock_order.specs.declared.answer.Edge.{Edge}
 use Rattle.lock_order.specs.declared.lock_graph.LockGraph.{LockGraph}
 use Rattle.lock_order.specs.Order.{HasCycle, ReportsCycle}
@@ -16,7 +17,9 @@ use Rattle.trace_board.specs.Tracked.{Tracked, tracked_since, extended}
 use Rattle.trace_shapes.specs.Places.{in_view, band_of, event_x, mark_y, band_top}
 use Rattle.trace_shapes.specs.Shapes.{with_number}
 use Rattle.trace_picture.specs.Bands.{band_number}
-use Rattle.trace_picture.specs.Picture.{closing_if, end_text, ending, legal_words, prefix_picture}
+use Rattle.trace_picture.specs.Verdicts.{legal_words, counted_line}
+use Rattle.trace_picture.specs.declared.verdicts.TheConstants.{TWO_LINES}
+use Rattle.trace_picture.specs.Picture.{closing_if, end_text, ending, prefix_picture}
 
 -- the upper edge of the mark of the event by which the inner mutex was got while the outer one was held
 abbrev pub ring_y : Layout → DrawnRange → Edge → ℕ
@@ -25,7 +28,8 @@ ring_y l v n = band_top l (band_number v (band_of l v n.place)) + mark_y (band_o
 -- an edge of this mark, with the two mutexes as its title
 unfoldable pub ring_text : Layout → DrawnRange → Edge → List ℕ
 ring_text l v n =
-    with_number (codes "<rect class='c' width='22' height='15' rx='3' x='") (event_x (band_of l v n.place) n.place)
+    with_number (codes "<rect class='c' id='e") n.place
+    ++ with_number (codes "' width='22' height='15' rx='3' x='") (event_x (band_of l v n.place) n.place)
     ++ with_number (codes "' y='") (ring_y l v n) ++ with_number (codes "'><title>m") n.outer.0
     ++ with_number (codes " then m") n.inner.0 ++ codes "</title></rect>\n"
 
@@ -37,29 +41,43 @@ abbrev pub rings_text : Layout → DrawnRange → List Edge → List ℕ
 rings_text l v ns = flat_map (ring_if l v) ns
 
 abbrev pub ringed_words : List ℕ
-ringed_words = codes "legal, a lock-order cycle is ringed, events: "
+ringed_words = codes "<text class='hd' x='44' y='18'><tspan class='ok'>legal</tspan>, a lock-order cycle is ringed, events: "
 
 abbrev pub no_cycle_words : List ℕ
-no_cycle_words = codes "legal, no lock-order cycle, events: "
+no_cycle_words = codes "<text class='hd' x='44' y='18'><tspan class='ok'>legal</tspan>, no lock-order cycle, events: "
+
+-- a step of a cycle: which mutex was got while which was held, by whom and by which event, with a link to its ring
+unfoldable pub nesting_text : Edge → List ℕ
+nesting_text n =
+    with_number (codes ", <a href='#e") n.place ++ with_number (codes "'>m") n.outer.0 ++ with_number (codes " then m") n.inner.0
+    ++ with_number (codes " by t") n.thread.0 ++ with_number (codes " at event ") n.place ++ codes "</a>"
+
+-- a cycle in words
+unfoldable pub cycle_text : List Edge → List ℕ
+cycle_text ns = codes "<text x='44' y='36'>the cycle" ++ flat_map nesting_text ns ++ codes "</text>\n"
+
+abbrev pub ringed_line : DrawnRange → ℕ → Summary → List Edge → List ℕ
+ringed_line v n s ns = counted_line v n ringed_words (Some s) ++ cycle_text ns
 
 -- the end of the picture of n events, with rings around the events of this cycle
-abbrev pub ringed_ending : Layout → DrawnRange → Tracked → ℕ → List Edge → List ℕ
-ringed_ending l v k n ns = closing_if l v k n ++ rings_text l v ns ++ end_text l v k n (with_number ringed_words n)
+abbrev pub ringed_ending : Layout → DrawnRange → Tracked → ℕ → Summary → List Edge → List ℕ
+ringed_ending l v k n s ns = closing_if l v k n ++ rings_text l v ns ++ end_text l v k n TWO_LINES (ringed_line v n s ns)
 
 -- A cycle of the events is ringed, or they have none and this is said.
-abbrev pub ShowsOrdered : Layout → DrawnRange → Tracked → ℕ → List Event → List ℕ → Type 0
-ShowsOrdered l v k n es text =
-    ((ns : List Edge) × ReportsCycle es ns × (text ≡ ringed_ending l v k n ns)) ⊎ ((¬ HasCycle es) × (text ≡ ending l v k n no_cycle_words))
+abbrev pub ShowsOrdered : Layout → DrawnRange → Tracked → ℕ → Summary → List Event → List ℕ → Type 0
+ShowsOrdered l v k n s es text =
+    ((ns : List Edge) × ReportsCycle es ns × (text ≡ ringed_ending l v k n s ns))
+    ⊎ ((¬ HasCycle es) × (text ≡ ending l v k n no_cycle_words (Some s)))
 
--- the end of the picture of n legal events, where the lock order is wanted or not
-abbrev pub IsEnding : Bool → Layout → DrawnRange → Tracked → ℕ → List Event → List ℕ → Type 0
-IsEnding false l v k n es text = text ≡ ending l v k n legal_words
-IsEnding true l v k n es text = ShowsOrdered l v k n es text
+-- the end of the picture of n legal events with these counts, where the lock order is wanted or not
+abbrev pub IsEnding : Bool → Layout → DrawnRange → Tracked → ℕ → Summary → List Event → List ℕ → Type 0
+IsEnding false l v k n s es text = text ≡ ending l v k n legal_words (Some s)
+IsEnding true l v k n s es text = ShowsOrdered l v k n s es text
 
--- the whole picture of a legal trace
-abbrev pub IsLegalPicture : Layout → DrawnRange → List Event → List ℕ → Type 0
-IsLegalPicture l v es text =
-    (end : List ℕ) × IsEnding v.ordered l v (tracked_since (extended [] es)) (length es) es end × (text ≡ prefix_picture l v es ++ end)
+-- the whole picture of a legal trace with these counts
+abbrev pub IsLegalPicture : Layout → DrawnRange → Summary → List Event → List ℕ → Type 0
+IsLegalPicture l v s es text =
+    (end : List ℕ) × IsEnding v.ordered l v (tracked_since (extended [] es)) (length es) s es end × (text ≡ prefix_picture l v es ++ end)
 
 -- it is kept what n events nest
 abbrev pub AreNoted : LockGraph → ℕ → Type 0

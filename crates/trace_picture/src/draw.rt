@@ -1,5 +1,5 @@
 //! The picture of a trace text.
-ghost use Rattle.std.specs.Prelude.{◌≡◌, ◌≢◌, ◌+◌, ◌-◌, ◌<◌, ◌≤◌, ◌^◌, ◌++◌, List, ℕ, [], length, take, Some, IfOk, OnOk, OnErr};
+ghost use Rattle.std.specs.Prelude.{◌≡◌, ◌≢◌, ◌+◌, ◌-◌, ◌<◌, ◌≤◌, ◌^◌, ◌++◌, List, ℕ, [], length, take, Some, None, IfOk, OnOk, OnErr};
 ghost use Rattle.std.specs.Io.KnownBytes.{Appends};
 ghost use Rattle.firefly_outside.specs.Causes.{HasCause, AppendsPrefix};
 ghost use Rattle.trace_core.specs.declared.reader_state.Phase.TheVariants as phase;
@@ -13,7 +13,8 @@ ghost use Rattle.larch_actions.specs.Layout.{IsLawful};
 ghost use Rattle.larch_actions.specs.Actions.{at_first};
 ghost use Rattle.lock_order.specs.Kept.{IsKept};
 ghost use Rattle.trace_board.specs.Tracked.{tracked_of};
-ghost use Rattle.trace_picture.specs.Picture.{ending, cut_words};
+ghost use Rattle.trace_picture.specs.Verdicts.{cut_words};
+ghost use Rattle.trace_picture.specs.Picture.{ending};
 ghost use Rattle.trace_picture.specs.Drawn.{IsDrawn, IsCutOff};
 
 use crate::bands::add_step;
@@ -39,29 +40,29 @@ fn verdict_of(fault: TextFault) -> Verdict
     }
 }
 
-// The verdict on a legal trace of so many events.
-fn legal(events: u64, totals: &Totals) -> Verdict
-    ensures { result ≡ verdict.Legal (record {
+// The counts of a legal trace of so many events.
+fn summary_of(events: u64, totals: &Totals) -> Summary
+    ensures { result ≡ record {
       events = events;
       held = totals.now.held;
       waiting = totals.now.waiting;
       alerted = totals.now.alerted;
-    }) }
+    } }
 {
-    Verdict::Legal(Summary {
+    Summary {
         events,
         held: totals.held,
         waiting: totals.waiting,
         alerted: totals.alerted,
-    })
+    }
 }
 
 // Sends what the buffer holds where that is more than 16 KiB, and says how much it holds then: there is room for another event.
 fn make_room<O: Sink>(buf: &[u8], at: usize, out: &mut O) -> Result<usize, SinkFault>
     requires within { at ≤ length buf.now }
-    requires large { 458000 ≤ length buf.now }
+    requires large { 490000 ≤ length buf.now }
     ensures ok { IfOk result (λ end. Flows (O.held out.old) (O.held out.new) (take at buf.now) (take end buf.now) []) }
-    ensures room { IfOk result (λ end. end + 440000 ≤ length buf.now) }
+    ensures room { IfOk result (λ end. end + 470000 ≤ length buf.now) }
     ensures err { OnErr result (AppendsPrefix (O.held out.old) (O.held out.new) (take at buf.now)) }
     ensures cause { HasCause (O.faults out.old) (O.faults out.new) result }
 {
@@ -88,9 +89,9 @@ fn end_cut<O: Sink>(
     requires few { count < 2 ^ 42 }
     requires room { at + 440000 ≤ length buf.old }
     ensures ok { OnOk result (Appends (O.held out.old) (O.held out.new)
-        (take at buf.old ++ ending layout.now view.now (tracked_of board.now) count cut_words)) }
+        (take at buf.old ++ ending layout.now view.now (tracked_of board.now) count cut_words None)) }
     ensures err { OnErr result (AppendsPrefix (O.held out.old) (O.held out.new)
-        (take at buf.old ++ ending layout.now view.now (tracked_of board.now) count cut_words)) }
+        (take at buf.old ++ ending layout.now view.now (tracked_of board.now) count cut_words None)) }
     ensures cause { HasCause (O.faults out.old) (O.faults out.new) result }
 {
     end_with(
@@ -100,7 +101,8 @@ fn end_cut<O: Sink>(
         view,
         board,
         count,
-        b"the input can't be read further, events: ",
+        b"<text class='hd' x='44' y='18'><tspan class='no'>the input can't be read further</tspan>, events: ",
+        None,
         out,
     )
 }
@@ -128,7 +130,7 @@ pub fn draw_trace<I: Source, O: Sink>(
     ensures reported { IfOk result (λ v. v ≢ verdict.ReadFault → I.faults input.new ≡ I.faults input.old) }
     ensures later { I.faults input.old ≤ I.faults input.new }
 {
-    let mut buf = [0; 458752];
+    let mut buf = [0; 491520];
     draw_by(&mut buf, input, budget, view, out)
 }
 
@@ -140,7 +142,7 @@ fn draw_by<I: Source, O: Sink>(
     view: &DrawnRange,
     out: &mut O,
 ) -> Result<Verdict, SinkFault>
-    requires large { 458000 ≤ length buf.old }
+    requires large { 490000 ≤ length buf.old }
     requires budget { budget ≤ 2 ^ 40 }
     ensures just { IfOk result (λ v. IsJust budget (I.left input.old) (I.left input.new) (I.faults input.old) (I.faults input.new) v) }
     ensures exact { IfOk result (λ v. (bytes : List ℕ) (other : Verdict) → I.left input.old ≡ Some bytes → v ≢ verdict.ReadFault
@@ -167,7 +169,7 @@ fn draw_all<I: Source, O: Sink>(
 ) -> Result<Verdict, SinkFault>
     requires phase { (standing I.left reader.old).phase ≡ phase.Head }
     requires lines { (standing I.left reader.old).lines ≡ 0 }
-    requires large { 458000 ≤ length buf.old }
+    requires large { 490000 ≤ length buf.old }
     requires fits { (standing I.left reader.old).room ≤ 2 ^ 40 }
     requires empty { (version : Version) → IsKept [] (at_first version) graph.old }
     ensures just { IfOk result (λ v. IsJust (standing I.left reader.old).room (standing I.left reader.old).rest (I.left
@@ -213,8 +215,9 @@ fn draw_all<I: Source, O: Sink>(
             },
             Ok(None) => {
                 let totals = state.summary();
-                return match end_legal(buf, free, &layout, view, &board, graph, place, out) {
-                    Ok(()) => Ok(legal(place, &totals)),
+                let left = summary_of(place, &totals);
+                return match end_legal(buf, free, &layout, view, &board, graph, place, left, out) {
+                    Ok(()) => Ok(Verdict::Legal(left)),
                     Err(fault) => Err(fault),
                 };
             }

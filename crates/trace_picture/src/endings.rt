@@ -2,24 +2,29 @@
 ghost use Rattle.std.specs.Prelude.{◌≡◌, ◌+◌, ◌<◌, ◌≤◌, ◌^◌, ◌++◌, length, take, codes, if◌then◌else◌, [], ℕ, List, OnOk, OnErr};
 ghost use Rattle.std.specs.Io.KnownBytes.{Appends};
 ghost use Rattle.firefly_outside.specs.Causes.{HasCause, AppendsPrefix};
-ghost use Rattle.larch_actions.specs.Layout.{IsLawful};
-ghost use Rattle.trace_board.specs.Tracked.{tracked_of};
+ghost use Rattle.larch_actions.specs.Layout.{IsLawful, HasNames};
+ghost use Rattle.trace_board.specs.Tracked.{tracked_of, IsNoted};
 ghost use Rattle.trace_shapes.specs.Places.{is_open, band_of, height_of};
-ghost use Rattle.trace_shapes.specs.Shapes.{with_number, line_of, clause_word};
+ghost use Rattle.trace_shapes.specs.Shapes.{with_number};
 ghost use Rattle.trace_picture.specs.Bands.{closing};
 ghost use Rattle.trace_picture.specs.Longest.{holds_text, holds_height};
 ghost use Rattle.trace_picture.specs.Overview.{over_height, over_style};
-ghost use Rattle.trace_picture.specs.Picture.{part_text, end_text, closing_if, ending, failed_note, failed_ending};
+ghost use Rattle.trace_picture.specs.Verdicts.{counted_line, refusal};
+ghost use Rattle.trace_picture.specs.Picture.{last_tags, end_text, closing_if, ending, failed_ending};
+ghost use Rattle.trace_picture.specs.Rings.{ringed_line};
 
 use crate::bands::{add_closing, add_failing, top_of};
+use crate::cycles::add_ringed_line;
 use crate::longest::{add_holds, height_of_holds};
 use crate::overview::{add_over_style, height_of_overview};
+use crate::verdicts::{ONE_LINE, THREE_LINES, TWO_LINES, add_counted_line, add_refusal};
 use firefly_outside::{Sink, SinkFault, put_all};
 use larch_actions::{Broken, Event, Layout};
+use lock_order::Cycle;
 use trace_board::board::TraceState;
+use trace_check::Summary;
 use trace_core::add;
-use trace_shapes::shapes::word_of;
-use trace_shapes::tags::{add_line, add_with_number};
+use trace_shapes::tags::add_with_number;
 use trace_shapes::view::{DrawnRange, band_of, count_bands, is_band_open};
 
 // How high the picture is, but for its last line.
@@ -56,54 +61,34 @@ pub fn add_last_closing(
     }
 }
 
-/// Adds the start of the last line.
-pub fn add_note_place(
-    buf: &mut [u8],
-    at: usize,
-    layout: &Layout,
-    view: &DrawnRange,
-    count: u64,
-) -> usize
-    requires lawful { IsLawful layout.now }
-    requires few { count < 2 ^ 42 }
-    requires room { at + 60 ≤ length buf.old }
-    ensures text { take result buf.new ≡ take at buf.old ++ with_number (codes "<text x='44' y='")
-        (height_of layout.now view.now count + 14) }
-    ensures near { result ≤ at + 60 }
-{
-    add_with_number(
-        buf,
-        at,
-        b"<text x='44' y='",
-        height(layout, view, count) + 14,
-    )
-}
-
-// Adds the height, what shows the overview, and the last tag.
+// Adds the height, by how much the words at the top move the rest down, what shows the overview, and the last tag.
 fn add_last_tags(
     buf: &mut [u8],
     at: usize,
     layout: &Layout,
     view: &DrawnRange,
     count: u64,
-    low: u64,
+    high: u64,
 ) -> usize
     requires lawful { IsLawful layout.now }
     requires few { count < 2 ^ 42 }
-    requires low { low < 2 ^ 60 }
-    requires room { at + 220 ≤ length buf.old }
-    ensures text { take result buf.new ≡ take at buf.old ++ (with_number (codes "</g>\n<style>:root{height:")
-        (low + 28 + holds_height layout.now.mutexes + over_height layout.now view.now count)
-        ++ over_style layout.now view.now count) }
-    ensures near { result ≤ at + 220 }
+    requires low { high < 2 ^ 60 }
+    requires room { at + 260 ≤ length buf.old }
+    ensures text { take result buf.new ≡ take at buf.old ++ last_tags layout.now view.now count high }
+    ensures near { result ≤ at + 260 }
 {
-    let whole = low + 28 + height_of_holds(layout) + height_of_overview(layout, view, count);
-    let at = add_with_number(buf, at, b"</g>\n<style>:root{height:", whole);
+    let whole = height(layout, view, count)
+        + 14
+        + height_of_holds(layout)
+        + height_of_overview(layout, view, count)
+        + high;
+    let at = add_with_number(buf, at, b"<style>:root{height:", whole);
+    let at = add_with_number(buf, at, b"px}.s{transform:translate(0,", high);
     add_over_style(buf, at, layout, view, count)
 }
 
-/// Adds the end of the note, the lines of the mutexes, and what follows them.
-pub fn add_last_lines(
+// Adds the lines of the mutexes, and what ends all that the words at the top move down.
+fn add_lines(
     buf: &mut [u8],
     at: usize,
     layout: &Layout,
@@ -113,38 +98,19 @@ pub fn add_last_lines(
 ) -> usize
     requires lawful { IsLawful layout.now }
     requires few { count < 2 ^ 42 }
-    requires room { at + 37000 ≤ length buf.old }
-    ensures text { take result buf.new ≡ take at buf.old ++ (codes "</text>\n" ++ holds_text layout.now.mutexes (tracked_of board.now) count
-        (height_of layout.now view.now count) ++ (with_number (codes "</g>\n<style>:root{height:") (height_of layout.now view.now count + 28
-        + holds_height layout.now.mutexes + over_height layout.now view.now count)
-        ++ over_style layout.now view.now count)) }
-    ensures near { result ≤ at + 37000 }
+    requires room { at + 36000 ≤ length buf.old }
+    ensures text { take result buf.new ≡ take at buf.old ++ (holds_text layout.now.mutexes (tracked_of board.now) count
+        (height_of layout.now view.now count) ++ codes "</g></g>\n") }
+    ensures near { result ≤ at + 36000 }
 {
     let low = height(layout, view, count);
-    let at = add(buf, at, b"</text>\n");
     let at = add_holds(buf, at, layout.mutexes, board, count, low);
-    add_last_tags(buf, at, layout, view, count, low)
+    add(buf, at, b"</g></g>\n")
 }
 
-// Adds which events were drawn.
-#[tactic(auto, unfolding(crate::specs::Picture::part_text))]
-fn add_part(buf: &mut [u8], at: usize, view: &DrawnRange, count: u64) -> usize
-    requires { at + 100 ≤ length buf.old }
-    ensures text { take result buf.new ≡ take at buf.old ++ part_text view.now count }
-    ensures near { result ≤ at + 100 }
-{
-    let end = count.min(view.end);
-    if view.first < end {
-        let at = add_with_number(buf, at, b", drawn: ", view.first);
-        add_with_number(buf, at, b" to ", end - 1)
-    } else {
-        add(buf, at, b", drawn: none")
-    }
-}
-
-/// Adds words and a count as the last line, and what follows it.
+// Adds the lines of the mutexes, words and a count for the top of the picture, and what follows them.
 #[tactic(auto, unfolding(crate::specs::Picture::end_text))]
-pub fn add_end(
+fn add_end(
     buf: &mut [u8],
     at: usize,
     layout: &Layout,
@@ -152,23 +118,46 @@ pub fn add_end(
     board: &TraceState,
     count: u64,
     words: &[u8],
+    left: Option<Summary>,
 ) -> usize
     requires lawful { IsLawful layout.now }
     requires few { count < 2 ^ 42 }
-    requires short { length words.now ≤ 60 }
-    requires room { at + 37300 ≤ length buf.old }
-    ensures text { take result buf.new ≡ take at buf.old ++ end_text layout.now view.now (tracked_of board.now) count
-        (with_number words.now count) }
-    ensures near { result ≤ at + 37300 }
+    requires short { length words.now ≤ 120 }
+    requires room { at + 37000 ≤ length buf.old }
+    ensures text { take result buf.new ≡ take at buf.old ++ end_text layout.now view.now (tracked_of board.now) count ONE_LINE
+        (counted_line view.now count words.now left) }
+    ensures near { result ≤ at + 37000 }
 {
-    let at = add_note_place(buf, at, layout, view, count);
-    let at = add(buf, at, b"'>");
-    let at = add_with_number(buf, at, words, count);
-    let at = add_part(buf, at, view, count);
-    add_last_lines(buf, at, layout, view, board, count)
+    let at = add_lines(buf, at, layout, view, board, count);
+    let at = add_counted_line(buf, at, view, count, words, left);
+    add_last_tags(buf, at, layout, view, count, ONE_LINE)
 }
 
-/// Adds the end of a picture of so many events, with these words on its last line.
+/// The same with a cycle in words.
+#[tactic(auto, unfolding(crate::specs::Picture::end_text))]
+pub fn add_ringed_end(
+    buf: &mut [u8],
+    at: usize,
+    layout: &Layout,
+    view: &DrawnRange,
+    board: &TraceState,
+    count: u64,
+    left: Summary,
+    cycle: &Cycle,
+) -> usize
+    requires lawful { IsLawful layout.now }
+    requires few { count < 2 ^ 42 }
+    requires room { at + 53000 ≤ length buf.old }
+    ensures text { take result buf.new ≡ take at buf.old ++ end_text layout.now view.now (tracked_of board.now) count TWO_LINES
+        (ringed_line view.now count left cycle.now) }
+    ensures near { result ≤ at + 53000 }
+{
+    let at = add_lines(buf, at, layout, view, board, count);
+    let at = add_ringed_line(buf, at, view, count, left, cycle);
+    add_last_tags(buf, at, layout, view, count, TWO_LINES)
+}
+
+/// Adds the end of a picture of so many events, with these words at its top.
 pub fn add_ending(
     buf: &mut [u8],
     at: usize,
@@ -177,32 +166,20 @@ pub fn add_ending(
     board: &TraceState,
     count: u64,
     words: &[u8],
+    left: Option<Summary>,
 ) -> usize
     requires lawful { IsLawful layout.now }
     requires few { count < 2 ^ 42 }
-    requires short { length words.now ≤ 60 }
+    requires short { length words.now ≤ 120 }
     requires room { at + 370000 ≤ length buf.old }
-    ensures text { take result buf.new ≡ take at buf.old ++ ending layout.now view.now (tracked_of board.now) count words.now }
+    ensures text { take result buf.new ≡ take at buf.old ++ ending layout.now view.now (tracked_of board.now) count words.now left }
     ensures near { result ≤ at + 370000 }
 {
     let at = add_last_closing(buf, at, layout, view, board, count);
-    add_end(buf, at, layout, view, board, count, words)
+    add_end(buf, at, layout, view, board, count, words, left)
 }
 
-// Adds what the failing event fails, and its line.
-#[tactic(auto, unfolding(crate::specs::Picture::failed_note))]
-fn add_failed_note(buf: &mut [u8], at: usize, place: u64, e: &Event, why: Broken) -> usize
-    requires room { at + 1500 ≤ length buf.old }
-    ensures text { take result buf.new ≡ take at buf.old ++ failed_note place e.now why }
-    ensures near { result ≤ at + 1500 }
-{
-    let at = add(buf, at, b"illegal, fails ");
-    let at = add(buf, at, word_of(why));
-    let at = add(buf, at, b": ");
-    add_line(buf, at, place, e)
-}
-
-// Adds the last line of a trace with an event that fails, and what follows it.
+// Adds the lines of the mutexes, what an event fails for the top of the picture, and what follows it.
 #[tactic(auto, unfolding(crate::specs::Picture::end_text))]
 fn add_failed_end(
     buf: &mut [u8],
@@ -215,20 +192,20 @@ fn add_failed_end(
     why: Broken,
 ) -> usize
     requires lawful { IsLawful layout.now }
+    requires noted { IsNoted e.now }
     requires few { place < 2 ^ 41 }
-    requires room { at + 39000 ≤ length buf.old }
-    ensures text { take result buf.new ≡ take at buf.old ++ end_text layout.now view.now (tracked_of board.now) (place + 1)
-        (failed_note place e.now why) }
-    ensures near { result ≤ at + 39000 }
+    requires room { at + 68000 ≤ length buf.old }
+    ensures text { take result buf.new ≡ take at buf.old ++ end_text layout.now view.now (tracked_of board.now) (place + 1) THREE_LINES
+        (refusal layout.now.version view.now (tracked_of board.now) place e.now why) }
+    ensures near { result ≤ at + 68000 }
 {
-    let at = add_note_place(buf, at, layout, view, place + 1);
-    let at = add(buf, at, b"'>");
-    let at = add_failed_note(buf, at, place, e, why);
-    let at = add_part(buf, at, view, place + 1);
-    add_last_lines(buf, at, layout, view, board, place + 1)
+    let at = add_lines(buf, at, layout, view, board, place + 1);
+    let at = add_refusal(buf, at, layout.version, view, board, place, e, why);
+    add_last_tags(buf, at, layout, view, place + 1, THREE_LINES)
 }
 
 /// Adds the event that fails, and the end of the picture.
+#[tactic(auto, using(trace_board::proofs::Noting::noted))]
 pub fn add_failed_ending(
     buf: &mut [u8],
     at: usize,
@@ -240,16 +217,17 @@ pub fn add_failed_ending(
     why: Broken,
 ) -> usize
     requires lawful { IsLawful layout.now }
+    requires named { HasNames layout.now e.now }
     requires few { place < 2 ^ 41 }
-    requires room { at + 440000 ≤ length buf.old }
+    requires room { at + 470000 ≤ length buf.old }
     ensures text { take result buf.new ≡ take at buf.old ++ failed_ending layout.now view.now (tracked_of board.now) place e.now why }
-    ensures near { result ≤ at + 440000 }
+    ensures near { result ≤ at + 470000 }
 {
     let at = add_failing(buf, at, layout, view, board, place, e, why);
     add_failed_end(buf, at, layout, view, board, place, e, why)
 }
 
-/// Sends what the buffer holds and the end of a picture of so many events, with these words on its last line.
+/// Sends what the buffer holds and the end of a picture of so many events, with these words at its top.
 pub fn end_with<O: Sink>(
     buf: &mut [u8],
     at: usize,
@@ -258,19 +236,20 @@ pub fn end_with<O: Sink>(
     board: &TraceState,
     count: u64,
     words: &[u8],
+    left: Option<Summary>,
     out: &mut O,
 ) -> Result<(), SinkFault>
     requires lawful { IsLawful layout.now }
     requires few { count < 2 ^ 42 }
-    requires short { length words.now ≤ 60 }
+    requires short { length words.now ≤ 120 }
     requires room { at + 370000 ≤ length buf.old }
     ensures ok { OnOk result (Appends (O.held out.old) (O.held out.new)
-        (take at buf.old ++ ending layout.now view.now (tracked_of board.now) count words.now)) }
+        (take at buf.old ++ ending layout.now view.now (tracked_of board.now) count words.now left)) }
     ensures err { OnErr result (AppendsPrefix (O.held out.old) (O.held out.new)
-        (take at buf.old ++ ending layout.now view.now (tracked_of board.now) count words.now)) }
+        (take at buf.old ++ ending layout.now view.now (tracked_of board.now) count words.now left)) }
     ensures cause { HasCause (O.faults out.old) (O.faults out.new) result }
 {
-    let end = add_ending(buf, at, layout, view, board, count, words);
+    let end = add_ending(buf, at, layout, view, board, count, words, left);
     put_all(out, &buf[..end])
 }
 
@@ -287,8 +266,9 @@ pub fn end_failed<O: Sink>(
     out: &mut O,
 ) -> Result<(), SinkFault>
     requires lawful { IsLawful layout.now }
+    requires named { HasNames layout.now e.now }
     requires few { place < 2 ^ 41 }
-    requires room { at + 440000 ≤ length buf.old }
+    requires room { at + 470000 ≤ length buf.old }
     ensures ok { OnOk result (Appends (O.held out.old) (O.held out.new)
         (take at buf.old ++ failed_ending layout.now view.now (tracked_of board.now) place e.now why)) }
     ensures err { OnErr result (AppendsPrefix (O.held out.old) (O.held out.new)

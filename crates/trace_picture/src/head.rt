@@ -42,14 +42,14 @@ fn add_style(buf: &mut [u8], at: usize) -> usize
 // Adds the rest of the colours and the hatch.
 #[tactic(auto, unfolding(crate::specs::Picture::pattern_text))]
 fn add_pattern(buf: &mut [u8], at: usize) -> usize
-    requires { at + 2600 ≤ length buf.old }
+    requires { at + 2900 ≤ length buf.old }
     ensures text { take result buf.new ≡ take at buf.old ++ pattern_text }
-    ensures near { result ≤ at + 2600 }
+    ensures near { result ≤ at + 2900 }
 {
     let at = add(
         buf,
         at,
-        b".u{display:none}.e{fill:#fff;stroke:#57606a;stroke-dasharray:3 2}.f{fill:#cf222e}.f+.i,.ft,.fe{fill:#fff}.ft,.fe{font-weight:bold;filter:url(#t)}.fe{text-anchor:end}.fl{stroke:#cf222e;stroke-width:2}.u0{fill:#57606a}.u1{fill:#c9ced5}.a{fill:none;stroke:#a02c6b;stroke-width:1.6;marker-end:url(#a)}.q{fill:none;stroke:#fff;stroke-width:4}.c{fill:none;stroke:#cf222e;stroke-width:3}\n@media (prefers-color-scheme:dark){text{fill:#e6edf3}.p,.z{fill:#0d1117}.r{fill:#1c2128}.n{fill:#9198a1}.l{stroke:#30363d}.q{stroke:#0d1117}.a{stroke:#ff8fc7}.ar{fill:#ff8fc7}.i,.s1,.s2,.s3,.x{fill:#1f2328}.m1+.x,.f+.i,.ft,.fe{fill:#fff}.hx{fill:#e6edf3;stroke:#0d1117}.hb{fill:#22272e}.d{fill:#5c4f17}.u0{fill:#adb5bd}.u1{fill:#3d444d}}\n</style>\n",
+        b".u{display:none}.e{fill:#fff;stroke:#57606a;stroke-dasharray:3 2}.f{fill:#cf222e}.f+.i,.ft,.fe{fill:#fff}.ft,.fe{font-weight:bold;filter:url(#t)}.fe{text-anchor:end}.fl{stroke:#cf222e;stroke-width:2}.u0{fill:#57606a}.u1{fill:#c9ced5}.a{fill:none;stroke:#a02c6b;stroke-width:1.6;marker-end:url(#a)}.q{fill:none;stroke:#fff;stroke-width:4}.c{fill:none;stroke:#cf222e;stroke-width:3}.hd{font-size:13px}.ok,.no,.at{font-weight:bold}.ok{fill:#1a7f37}.no{fill:#cf222e}.at{fill:#9a6700}\n@media (prefers-color-scheme:dark){text{fill:#e6edf3}.p,.z{fill:#0d1117}.r{fill:#1c2128}.n{fill:#9198a1}.l{stroke:#30363d}.q{stroke:#0d1117}.a{stroke:#ff8fc7}.ar{fill:#ff8fc7}.i,.s1,.s2,.s3,.x{fill:#1f2328}.m1+.x,.f+.i,.ft,.fe{fill:#fff}.hx{fill:#e6edf3;stroke:#0d1117}.hb{fill:#22272e}.d{fill:#5c4f17}.u0{fill:#adb5bd}.u1{fill:#3d444d}.ok{fill:#3fb950}.no{fill:#ff7b72}.at{fill:#e3b341}}\n</style>\n",
     );
     let at = add(
         buf,
@@ -61,7 +61,11 @@ fn add_pattern(buf: &mut [u8], at: usize) -> usize
         at,
         b"<marker id='a' viewBox='0 0 6 6' refX='5' refY='3' markerWidth='7' markerHeight='7' markerUnits='userSpaceOnUse' orient='auto'><path class='ar' d='M0 0L6 3L0 6z' fill='#a02c6b'/></marker><filter id='t' x='-.05' y='-.15' width='1.1' height='1.3'><feFlood flood-color='#cf222e'/><feComposite in='SourceGraphic'/></filter></defs>\n",
     );
-    add(buf, at, b"<rect class='p' width='100%' height='100%'/>\n")
+    add(
+        buf,
+        at,
+        b"<rect class='p' width='100%' height='100%'/>\n<g class='s'>\n",
+    )
 }
 
 // Adds what is no mark: the arrows, the bars and a wait.

@@ -9,6 +9,7 @@
 
 mod arrows;
 mod bands;
+mod cycles;
 mod draw;
 mod endings;
 mod head;
@@ -17,5 +18,6 @@ mod lives;
 mod longest;
 mod overview;
 mod rings;
+mod verdicts;
 
 pub use draw::draw_trace;

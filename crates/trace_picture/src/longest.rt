@@ -66,7 +66,7 @@ fn line_y(low: u64, m: u32) -> u64
     ensures y { result ≡ line_y low m }
     ensures small { result < 2 ^ 61 }
 {
-    low + 22 + LINE * (u64::from(m) / 3)
+    low + 8 + LINE * (u64::from(m) / 3)
 }
 
 // Adds the place of a text and the start of its tag.

@@ -212,7 +212,7 @@ pub fn add_over_style(
 {
     if 10 < count_bands(view, count) {
         let height = height_of_overview(layout, view, count);
-        let at = add_with_number(buf, at, b"px}.w{transform:translate(0,", height);
+        let at = add_with_number(buf, at, b"px)}.w{transform:translate(0,", height);
         let at = add_with_number(
             buf,
             at,
@@ -221,6 +221,6 @@ pub fn add_over_style(
         );
         add(buf, at, b"px)}</style>\n</svg>\n")
     } else {
-        add(buf, at, b"px}</style>\n</svg>\n")
+        add(buf, at, b"px)}</style>\n</svg>\n")
     }
 }

@@ -13,11 +13,12 @@ ghost use Rattle.trace_shapes.specs.Places.{band_of};
 ghost use Rattle.trace_picture.specs.Rings.{ring_y, ring_text, ring_if, rings_text, ringed_ending, ShowsOrdered, IsEnding, AreNoted, Sends};
 
 use crate::bands::{number_of, top_of};
-use crate::endings::{add_end, add_last_closing, end_with};
+use crate::endings::{add_last_closing, add_ringed_end, end_with};
 use firefly_outside::{Sink, SinkFault, put_all};
 use larch_actions::{Event, Layout};
 use lock_order::{Cycle, Edge, LockGraph, cycle_in};
 use trace_board::board::TraceState;
+use trace_check::Summary;
 use trace_core::add;
 use trace_shapes::shapes::{event_x, mark_y};
 use trace_shapes::tags::add_with_number;
@@ -57,12 +58,8 @@ fn add_ring(buf: &mut [u8], at: usize, layout: &Layout, view: &DrawnRange, edge:
     let band = band_of(layout, view, edge.place);
     let x = event_x(&band, edge.place);
     let y = top_of_ring(layout, view, &band, edge);
-    let at = add_with_number(
-        buf,
-        at,
-        b"<rect class='c' width='22' height='15' rx='3' x='",
-        x,
-    );
+    let at = add_with_number(buf, at, b"<rect class='c' id='e", edge.place);
+    let at = add_with_number(buf, at, b"' width='22' height='15' rx='3' x='", x);
     let at = add_with_number(buf, at, b"' y='", y);
     let at = add_with_number(buf, at, b"'><title>m", u64::from(edge.outer.0));
     let at = add_with_number(buf, at, b" then m", u64::from(edge.inner.0));
@@ -109,25 +106,18 @@ fn add_ringed_ending(
     board: &TraceState,
     cycle: &Cycle,
     count: u64,
+    left: Summary,
 ) -> usize
     requires lawful { IsLawful layout.now }
     requires few { count < 2 ^ 42 }
     requires places { AllByRecursion (λ (n : Edge). n.place < 2 ^ 42) cycle.now }
     requires room { at + 440000 ≤ length buf.old }
-    ensures text { take result buf.new ≡ take at buf.old ++ ringed_ending layout.now view.now (tracked_of board.now) count cycle.now }
+    ensures text { take result buf.new ≡ take at buf.old ++ ringed_ending layout.now view.now (tracked_of board.now) count left cycle.now }
     ensures near { result ≤ at + 440000 }
 {
     let at = add_last_closing(buf, at, layout, view, board, count);
     let at = add_rings(buf, at, layout, view, cycle);
-    add_end(
-        buf,
-        at,
-        layout,
-        view,
-        board,
-        count,
-        b"legal, a lock-order cycle is ringed, events: ",
-    )
+    add_ringed_end(buf, at, layout, view, board, count, left, cycle)
 }
 
 // Sends what the buffer holds, and the end of a picture in which a cycle is ringed.
@@ -139,6 +129,7 @@ fn end_ringed<O: Sink>(
     board: &TraceState,
     cycle: &Cycle,
     count: u64,
+    left: Summary,
     out: &mut O,
 ) -> Result<(), SinkFault>
     requires lawful { IsLawful layout.now }
@@ -146,12 +137,12 @@ fn end_ringed<O: Sink>(
     requires places { AllByRecursion (λ (n : Edge). n.place < 2 ^ 42) cycle.now }
     requires room { at + 440000 ≤ length buf.old }
     ensures ok { OnOk result (Appends (O.held out.old) (O.held out.new)
-        (take at buf.old ++ ringed_ending layout.now view.now (tracked_of board.now) count cycle.now)) }
+        (take at buf.old ++ ringed_ending layout.now view.now (tracked_of board.now) count left cycle.now)) }
     ensures err { OnErr result (AppendsPrefix (O.held out.old) (O.held out.new)
-        (take at buf.old ++ ringed_ending layout.now view.now (tracked_of board.now) count cycle.now)) }
+        (take at buf.old ++ ringed_ending layout.now view.now (tracked_of board.now) count left cycle.now)) }
     ensures cause { HasCause (O.faults out.old) (O.faults out.new) result }
 {
-    let end = add_ringed_ending(buf, at, layout, view, board, cycle, count);
+    let end = add_ringed_ending(buf, at, layout, view, board, cycle, count, left);
     put_all(out, &buf[..end])
 }
 
@@ -164,6 +155,7 @@ fn end_ordered<O: Sink>(
     board: &TraceState,
     graph: &LockGraph,
     count: u64,
+    left: Summary,
     out: &mut O,
 ) -> Result<(), SinkFault>
     requires lawful { IsLawful layout.now }
@@ -171,12 +163,12 @@ fn end_ordered<O: Sink>(
     requires noted { AreNoted graph.now count }
     requires room { at + 440000 ≤ length buf.old }
     ensures ended { (es : List Event) (now : Spec) → IsKept es now graph.now
-        → (end : List ℕ) × ShowsOrdered layout.now view.now (tracked_of board.now) count es end
+        → (end : List ℕ) × ShowsOrdered layout.now view.now (tracked_of board.now) count left es end
         × Sends result (O.held out.old) (O.held out.new) (take at buf.old ++ end) }
     ensures cause { HasCause (O.faults out.old) (O.faults out.new) result }
 {
     match cycle_in(graph) {
-        Some(cycle) => end_ringed(buf, at, layout, view, board, &cycle, count, out),
+        Some(cycle) => end_ringed(buf, at, layout, view, board, &cycle, count, left, out),
         None => end_with(
             buf,
             at,
@@ -184,13 +176,14 @@ fn end_ordered<O: Sink>(
             view,
             board,
             count,
-            b"legal, no lock-order cycle, events: ",
+            b"<text class='hd' x='44' y='18'><tspan class='ok'>legal</tspan>, no lock-order cycle, events: ",
+            Some(left),
             out,
         ),
     }
 }
 
-/// Ends the picture of a legal trace.
+/// Ends the picture of a legal trace with these counts.
 pub fn end_legal<O: Sink>(
     buf: &mut [u8],
     at: usize,
@@ -199,6 +192,7 @@ pub fn end_legal<O: Sink>(
     board: &TraceState,
     graph: &LockGraph,
     count: u64,
+    left: Summary,
     out: &mut O,
 ) -> Result<(), SinkFault>
     requires lawful { IsLawful layout.now }
@@ -206,13 +200,23 @@ pub fn end_legal<O: Sink>(
     requires noted { view.now.ordered ≡ true → AreNoted graph.now count }
     requires room { at + 440000 ≤ length buf.old }
     ensures ended { (es : List Event) (now : Spec) → (view.now.ordered ≡ true → IsKept es now graph.now)
-        → (end : List ℕ) × IsEnding view.now.ordered layout.now view.now (tracked_of board.now) count es end
+        → (end : List ℕ) × IsEnding view.now.ordered layout.now view.now (tracked_of board.now) count left es end
         × Sends result (O.held out.old) (O.held out.new) (take at buf.old ++ end) }
     ensures cause { HasCause (O.faults out.old) (O.faults out.new) result }
 {
     if view.ordered {
-        end_ordered(buf, at, layout, view, board, graph, count, out)
+        end_ordered(buf, at, layout, view, board, graph, count, left, out)
     } else {
-        end_with(buf, at, layout, view, board, count, b"legal, events: ", out)
+        end_with(
+            buf,
+            at,
+            layout,
+            view,
+            board,
+            count,
+            b"<text class='hd' x='44' y='18'><tspan class='ok'>legal</tspan>, events: ",
+            Some(left),
+            out,
+        )
     }
 }

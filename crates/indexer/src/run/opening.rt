@@ -18,7 +18,7 @@ use std::alloc::{AllocError, Global};
 use walker::MOST_DIRS;
 
 /// The greatest number of paths of files that wait to be read.
-const MOST_FILES: u32 = 256;
+const MOST_FILES: u32 = 4096;
 
 /// The greatest number of pieces that wait to be merged.
 const MOST_PIECES: u32 = 8;

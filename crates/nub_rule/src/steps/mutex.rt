@@ -5,7 +5,7 @@ ghost use lib.ListN.{get_elem?};
 ghost use Rattle.larch_actions.specs.Sets.{without};
 ghost use Rattle.nub_rule.specs.declared.view.Wait.{Wait};
 ghost use Rattle.nub_rule.specs.declared.view.WaitBit.TheVariants.{Closing, Open};
-ghost use Rattle.nub_rule.specs.Known.{Holds, IsIn, IsOut, Makes, MayGive, PicksShare, learnt};
+ghost use Rattle.nub_rule.specs.Known.{EntersStint, Holds, IsIn, IsOut, Makes, MayGive, PicksShare, learnt};
 ghost use Rattle.nub_rule.specs.Parts.{MayRecord, made};
 ghost use Rattle.nub_rule.specs.Plays.{MayTake, opened, quieted, release_event};
 
@@ -67,12 +67,14 @@ pub fn clear_bit<U: Uses, C: Change<U>>(p: &Package<U>, me: &mut Thread<U>, m: M
       part = record (learnt me.old.part me.new.part) {
         held = slice_set me.old.held m.0 None;
         share = me.new.share;
+        stints = me.new.stints;
         cleared = m.0 ∷ me.old.cleared;
         pen = made me.old.pen;
       };
       values = slice_set me.old.values m.0 None;
     } }
     ensures share { PicksShare C.after m.0 me.old me.new }
+    ensures stint { EntersStint C.after m.0 me.old me.new }
 {
     prove!(m.0 < p.layout.mutexes);
     bring(&mut me.hand, &mut me.seat, VALUES + m.0 as u16);
@@ -98,12 +100,14 @@ pub fn clear_bit_in_wait<U: Uses, C: Change<U>>(
       part = record me.old.part {
         held = slice_set me.old.held m.0 None;
         share = me.new.share;
+        stints = me.new.stints;
         wait = opened me.old.wait;
         cleared = m.0 ∷ me.old.cleared;
       };
       values = slice_set me.old.values m.0 None;
     } }
     ensures share { PicksShare C.after m.0 me.old me.new }
+    ensures stint { EntersStint C.after m.0 me.old me.new }
 {
     prove!(m.0 < p.layout.mutexes);
     bring(&mut me.hand, &mut me.seat, VALUES + m.0 as u16);

@@ -1,43 +1,25 @@
-use Rattle.std.proofs.Common.{◌∙◌, refl}
+use Rattle.std.proofs.Common.{List, ℕ, ◌≤◌, length, IfSome, refl, sym, subst}
 use Rattle.exact_text.proofs.Reported.{same_reported, fault_reported}
-use Rattle.index_text.proofs.Ordered.{ordered_rows}
-use Rattle.index_text.proofs.Wholes.{first_fault, text_fault, all_read}
+use Rattle.word_index.specs.Index.{Row}
+use Rattle.index_text.specs.Texts.{ReadsAs}
 use Rattle.index_text.proofs.read.read_index_within.Goals as goal
 
-pub returns-in-Err-clause-fault : goal.returns-in-Err-clause-fault
-returns-in-Err-clause-fault g c =
-    let n = c.new-intake.ensures in
-    first_fault c.new-intake.result (g.I.Source.left c.args.input.now) c.args.most n.rest n.given n.budget n.lines c.fill.new.self (g.I.Source.left c.fill.new.input) (g.I.Source.faults c.args.input.now) (g.I.Source.faults c.fill.new.input) c.in-Err.fault c.in-Err.ensures.filled
-
-pub returns-in-Err-clause-reported : goal.returns-in-Err-clause-reported
-returns-in-Err-clause-reported g c = fault_reported _ _ _ c.in-Err.fault refl c.in-Err.ensures.reported
-
-pub finish-requires-clause-ended : goal.finish-requires-clause-ended
-finish-requires-clause-ended g c = c.in-Ok-take_rows.ensures.taken.2
-
-pub finish-requires-clause-ordered : goal.finish-requires-clause-ordered
-finish-requires-clause-ordered g c = ordered_rows c.take_rows.new.draft.rows c.in-Ok-take_rows.ensures.taken.0
+pub finish-requires : goal.finish-requires
+finish-requires g c =
+    let h = c.in-Ok.ensures.offered in
+    (h.offered, h.kept, h.ended, h.ordered)
 
 pub returns-in-Ok-finish-clause-index : goal.returns-in-Ok-finish-clause-index
 returns-in-Ok-finish-clause-index g c =
-    let n = c.new-intake.ensures in
-    let d = c.take_rows.new.draft in
-    let t = c.in-Ok-take_rows.ensures.taken in
-    let f = c.in-Ok-finish.ensures in
-    all_read c.new-intake.result (g.I.Source.left c.args.input.now) c.args.most n.rest n.given n.budget n.lines c.fill.new.self (g.I.Source.left c.fill.new.input) (g.I.Source.left c.take_rows.new.input) (g.I.Source.faults c.args.input.now) (g.I.Source.faults c.fill.new.input)
-    c.in-Ok.field-0 c.in-Ok.ensures.filled d.rows c.in-Ok-finish.index.rows d.skipped c.in-Ok-finish.index.skipped f.0 f.1 t.0 t.1 t.3
-
-pub returns-in-Ok-finish-clause-end : goal.returns-in-Ok-finish-clause-end
-returns-in-Ok-finish-clause-end g c = c.in-Ok-take_rows.ensures.taken.3.end
+    let h = c.in-Ok.ensures.offered in
+    let f = c.in-Ok-finish.ensures h.offered h.kept in
+    let left = g.I.Source.left c.args.input.now in
+    let most = c.args.most in
+    let skipped = subst (λ (ps : List (List ℕ)). IfSome left (λ bytes. (length bytes ≤ most) × ReadsAs bytes h.offered.rows ps)) (sym f.1) h.text in
+    subst (λ (rs : List Row). IfSome left (λ bytes. (length bytes ≤ most) × ReadsAs bytes rs c.in-Ok-finish.index.skipped)) (sym f.0) skipped
 
 pub returns-in-Ok-finish-clause-reported : goal.returns-in-Ok-finish-clause-reported
-returns-in-Ok-finish-clause-reported g c = same_reported _ _ _ (c.in-Ok-take_rows.ensures.reported.unfailed ∙ c.in-Ok.ensures.reported.unfailed)
+returns-in-Ok-finish-clause-reported g c = same_reported _ _ _ c.in-Ok.ensures.reported.unfailed
 
-pub returns-clause-fault : goal.returns-clause-fault
-returns-clause-fault g c =
-    let n = c.new-intake.ensures in
-    text_fault c.new-intake.result (g.I.Source.left c.args.input.now) c.args.most n.rest n.given n.budget n.lines c.fill.new.self (g.I.Source.left c.fill.new.input) (g.I.Source.left c.take_rows.new.input) (g.I.Source.faults c.args.input.now) (g.I.Source.faults c.fill.new.input)
-    c.in-Ok.field-0 c.in-Ok.ensures.filled (g.I.Source.faults c.take_rows.new.input) c.in-Err-take_rows.fault c.in-Ok.ensures.reported.unfailed c.in-Err-take_rows.ensures.taken
-
-pub returns-clause-reported : goal.returns-clause-reported
-returns-clause-reported g c = fault_reported _ _ _ c.in-Err-take_rows.fault c.in-Ok.ensures.reported.unfailed c.in-Err-take_rows.ensures.reported
+pub returns-in-Err-clause-reported : goal.returns-in-Err-clause-reported
+returns-in-Err-clause-reported g c = fault_reported _ _ _ c.in-Err.fault refl c.in-Err.ensures.reported

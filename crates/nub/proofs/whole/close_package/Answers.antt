@@ -4,7 +4,7 @@ use Rattle.larch_actions.specs.declared.event.Version.TheVariants.{One, Two}
 use Rattle.nub_rule.specs.declared.package.Stored.{Stored}
 use Rattle.nub.specs.History.{AreStored}
 use Rattle.nub.proofs.Begun.{threads-only}
-use Rattle.nub.proofs.Closing.{keeps_locks, whole, are_stored, left_by}
+use Rattle.nub.proofs.Closing.{keeps_locks, keeps_stints, whole, are_stored, left_by}
 use Rattle.nub.proofs.whole.close_package.Goals as goal
 
 pub close_package-values-requires-clause-count : goal.close_package-values-requires-clause-count
@@ -57,3 +57,15 @@ returns-clause-traced g c = λ traced.
     let are = are_stored c.args.p.layout holds c.args.p c.args.threads.items values c.close_package-values.result.stored.items left (λ n t at. (c.requires.threads n t at).rest.stored) traced (s.0 ∙ ap (λ ts. map (λ t. t.entries) ts) same) (s.1 ∙ ap (λ ts. map (λ t. t.lost) ts) same) in
     let given = subst (λ (xs : List Stored). AreStored left.log xs) (sym c.as_slice.ensures.value) are in
     (left.log, c.in_ok-trace.ensures.traced (c.traced-traced.ensures ∙ traced) left.log given, whole c.args.p.layout holds c.args.threads.items values left c.requires.count)
+
+pub returns-clause-stints : goal.returns-clause-stints
+returns-clause-stints g c = λ traced.
+    let v = c.close_package-values.ensures.values in
+    let s = c.close_package-values.ensures.stored in
+    let same = ap (λ ts. ts.items) (c.into_inner.ensures ∙ c.new-threads.ensures) in
+    let holds = g.U.Uses.holds c.args.p.world in
+    let values = c.close_package-values.result.values.items in
+    let left = left_by c.args.p.layout holds c.into_inner.result.items c.args.threads.items values same v.1 in
+    let are = are_stored c.args.p.layout holds c.args.p c.args.threads.items values c.close_package-values.result.stored.items left (λ n t at. (c.requires.threads n t at).rest.stored) traced (s.0 ∙ ap (λ ts. map (λ t. t.entries) ts) same) (s.1 ∙ ap (λ ts. map (λ t. t.lost) ts) same) in
+    let given = subst (λ (xs : List Stored). AreStored left.log xs) (sym c.as_slice.ensures.value) are in
+    (left.log, c.in_ok-trace.ensures.traced (c.traced-traced.ensures ∙ traced) left.log given, keeps_stints c.args.p.layout holds c.args.threads.items values left)

@@ -1,7 +1,6 @@
 use Rattle.std.proofs.Common.{◌≡◌, ◌≤◌, ℕ, Result, Ok, Err, inl, inr, ◌-◌, ◌^◌, ◌<◌, ◌++◌, [], take, refl, ap, sym, subst, ◌∙◌, arith}
 use Rattle.firefly_outside.specs.Causes.{HasCause}
 use Rattle.larch_actions.specs.Layout.{HasNames}
-use Rattle.trace_check.specs.declared.checker.Summary.{Summary}
 use Rattle.trace_check.proofs.UnderWay.{head_fault, fault_on, fails_on, ends_on}
 use Rattle.trace_check.proofs.Prefixes.{event_line_some}
 use Rattle.trace_core.specs.Reader.{standing}
@@ -113,8 +112,8 @@ returns-in-Ok-end_legal-clause-just g c =
     let u = c.loop-free.invariant.ringing.drawing.under_way in
     let taken = rw c.in-Ok-None.field-0-is at (c.in-Ok-None.ensures.end u.phase) in
     let sums = c.summary-totals.ensures in
-    let s : Summary = record { events = c.loop-free.place; held = c.summary-totals.result.held; waiting = c.summary-totals.result.waiting; alerted = c.summary-totals.result.alerted } in
-    rw c.legal.ensures (ends_on _ _ _ _ _ _ _ _ s fits u taken refl sums.held sums.waiting sums.alerted)
+    let e = c.summary_of-left.ensures in
+    ends_on _ _ _ _ _ _ _ _ c.summary_of-left.result fits u taken (ap (λ x. x.events) e) (ap (λ x. x.held) e ∙ sums.held) (ap (λ x. x.waiting) e ∙ sums.waiting) (ap (λ x. x.alerted) e ∙ sums.alerted)
 
 pub returns-in-Ok-end_legal-clause-drawn : goal.returns-in-Ok-end_legal-clause-drawn
 returns-in-Ok-end_legal-clause-drawn g c =
@@ -124,16 +123,18 @@ returns-in-Ok-end_legal-clause-drawn g c =
     let u = c.loop-free.invariant.ringing.drawing.under_way in
     let taken = rw c.in-Ok-None.field-0-is at (c.in-Ok-None.ensures.end u.phase) in
     let sums = c.summary-totals.ensures in
-    let s : Summary = record { events = c.loop-free.place; held = c.summary-totals.result.held; waiting = c.summary-totals.result.waiting; alerted = c.summary-totals.result.alerted } in
+    let e = c.summary_of-left.ensures in
     let b = c.in-Ok-end_legal.ensures.ended r.drawing.under_way.events (spec_of c.loop-free.state) r.noted in
-    rw c.legal.ensures (legal_got _ _ _ _ _ _ _ _ _ _ _ _ _ r.drawing b.0 (g.O.Sink.held c.end_legal.new.out) c.in-Ok.layout s i.laid fits taken refl sums.held sums.waiting sums.alerted b.1 b.2.0)
+    legal_got _ _ _ _ _ _ _ _ _ _ _ _ _ r.drawing b.0 (g.O.Sink.held c.end_legal.new.out) c.in-Ok.layout c.summary_of-left.result i.laid fits taken (ap (λ x. x.events) e) (ap (λ x. x.held) e ∙ sums.held) (ap (λ x. x.waiting) e ∙ sums.waiting) (ap (λ x. x.alerted) e ∙ sums.alerted) b.1 b.2.0
 
 pub returns-in-Err-end_legal-clause-cut_off : goal.returns-in-Err-end_legal-clause-cut_off
 returns-in-Err-end_legal-clause-cut_off g c =
     let i = c.loop-free.invariant in
     let r = ringing_room _ _ _ _ _ _ _ _ _ _ _ _ _ _ i.ringing (g.O.Sink.held c.make_room.new.out) (take c.in-Ok-make_room.free c.loop-free.buf) c.in-Ok-make_room.ensures.ok in
+    let sums = c.summary-totals.ensures in
+    let e = c.summary_of-left.ensures in
     let b = c.in-Err-end_legal.ensures.ended r.drawing.under_way.events (spec_of c.loop-free.state) r.noted in
-    legal_cut _ _ _ _ _ _ _ _ _ _ _ _ r.drawing [] (g.O.Sink.held c.end_legal.new.out) c.in-Ok.layout i.laid b.0 b.1 b.2.1
+    legal_cut _ _ _ _ _ _ _ _ _ _ _ _ r.drawing [] (g.O.Sink.held c.end_legal.new.out) c.in-Ok.layout i.laid c.summary_of-left.result (ap (λ x. x.events) e) (ap (λ x. x.held) e ∙ sums.held) (ap (λ x. x.waiting) e ∙ sums.waiting) (ap (λ x. x.alerted) e ∙ sums.alerted) b.0 b.1 b.2.1
 
 pub returns-in-Ok-end_cut-clause-just : goal.returns-in-Ok-end_cut-clause-just
 returns-in-Ok-end_cut-clause-just g c =
@@ -271,3 +272,9 @@ apply-requires g c =
 
 pub overflow_add-place : goal.overflow_add-place
 overflow_add-place g c = omega (arith, drawing_few _ _ _ _ _ _ _ _ _ _ _ _ c.loop-free.invariant.ringing.drawing, c.requires.fits)
+
+pub end_failed-requires-clause-named : goal.end_failed-requires-clause-named
+end_failed-requires-clause-named g c =
+    let i = c.loop-free.invariant in
+    let taken = rw c.in-Ok-Some.field-0-is at (c.in-Ok-Some.ensures.event i.ringing.drawing.under_way.phase) in
+    subst (λ l. HasNames l c.in-Ok-Some.event) (sym i.laid) taken.names

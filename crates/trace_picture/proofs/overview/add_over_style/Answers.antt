@@ -16,10 +16,10 @@ is_no_more i k n same h = grind (arith, nat_tests)
 
 module _ (height : ℕ) where
   abbrev shown : List ℕ
-  shown = with_number (codes "px}.w{transform:translate(0,") height ++ with_number (codes "px)}.u{display:inline;transform:translate(0,112px) translate(0,-") height ++ codes "px)}</style>\n</svg>\n"
+  shown = with_number (codes "px)}.w{transform:translate(0,") height ++ with_number (codes "px)}.u{display:inline;transform:translate(0,112px) translate(0,-") height ++ codes "px)}</style>\n</svg>\n"
 
 abbrev hidden : List ℕ
-hidden = codes "px}</style>\n</svg>\n"
+hidden = codes "px)}</style>\n</svg>\n"
 
 pub returns-then-count_bands-gt10-clause-text : goal.returns-then-count_bands-gt10-clause-text
 returns-then-count_bands-gt10-clause-text c =

@@ -13,5 +13,5 @@ returns c =
     record {
       dirs = dirs;
       first = c.in_ok-dirs.ensures.first;
-      is = three ∙ (ap (λ q. Dirs dirs ∷ Ring q ∷ Ring c.in_ok-pieces.pieces ∷ []) c.in_ok-files.ensures ∙ ap (λ q. Dirs dirs ∷ Ring (fresh 256) ∷ Ring q ∷ []) c.in_ok-pieces.ensures);
+      is = three ∙ (ap (λ q. Dirs dirs ∷ Ring q ∷ Ring c.in_ok-pieces.pieces ∷ []) c.in_ok-files.ensures ∙ ap (λ q. Dirs dirs ∷ Ring (fresh 4096) ∷ Ring q ∷ []) c.in_ok-pieces.ensures);
     }

@@ -16,7 +16,7 @@ swap-requires-clause-inside g c κs within = let low = c.me.invariant.few in let
 
 pub swap-requires-clause-allowed : goal.swap-requires-clause-allowed
 swap-requires-clause-allowed g c κs within = let i = c.me.invariant in let x = c.requires.waits in let traces : c.p.inside.table.shared.key.traced ≡ c.args.p.now.traced = ap (λ s. s.traced) c.p.view_is in swap_alert_in_raise_keeps _ _ _ _ _ _ _ c.args.m.0 c.args.c.0 c.me.inside.seat.me _ x.0 c.requires.has.0 (c.alert_word.ensures ∙ ap alert_at (sym i.numbered)) (subst (λ (k : ℕ). k < most_threads) (sym i.numbered) i.few) i.member (search rules)
-    (ap (λ k. k.wait) c.me.view_is ∙ x.1) x.2 x.3 x.4 (ap (λ k. get_elem? k.held c.args.m.0) c.me.view_is ∙ c.requires.has.1) (ap (λ k. k.stand) c.me.view_is ∙ c.requires.outside.1) (ap (λ k. k.alerted) c.me.view_is ∙ c.requires.alerted)
+    (ap (λ k. k.wait) c.me.view_is ∙ x.1) x.2 x.3 x.4 x.5 (ap (λ k. get_elem? k.held c.args.m.0) c.me.view_is ∙ c.requires.has.1) (ap (λ k. k.stand) c.me.view_is ∙ c.requires.outside.1) (ap (λ k. k.alerted) c.me.view_is ∙ c.requires.alerted)
     (subst (λ (z : Bool × Life × Pen). MayRecord z.0 z.1 z.2) (λ j. (sym traces j, ap (λ k. k.life) (sym c.me.view_is) j, ap (λ k. k.pen) (sym c.me.view_is) j)) c.requires.pen)
 
 pub invariant_of-me : goal.invariant_of-me
