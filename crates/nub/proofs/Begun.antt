@@ -70,7 +70,7 @@ module _ {T H W : Type 0} where
 
   pub right_is : (p : Shape W) (begin : W → ℕ → H) (n : ℕ) (t : Known T H W) → n < p.layout.threads → t ≡ first_known p.table_id Two p.world begin n → IsRight p begin n t
   right_is p begin n t low e = let P : Known T H W → Type 0 = λ k. IsRight p begin n k in
-      subst P (sym e) record { number = refl; left = record { of = refl; named = low; stored = λ traced lost. (refl, refl) }; world = refl; seen = refl; mine = refl; share = refl }
+      subst P (sym e) record { number = refl; left = record { of = refl; named = low; stored = λ traced lost. (refl, refl) }; world = refl; seen = refl; mine = refl; share = refl; stints = refl }
 
   pub unborn_is : (z : TableId) (w : W) (begin : W → ℕ → H) (n : ℕ) (t : Known T H W) → n ≢ 0 → t ≡ first_known z Two w begin n → IsUnborn begin t
   unborn_is z w begin n t ne e = let P : Known T H W → Type 0 = λ k. IsUnborn begin k in
@@ -106,6 +106,7 @@ module _ {T H W : Type 0} where
         lacks_named = λ m low. none_there 64 m (omega arith);
         none = λ m x h. none_held 64 m x h;
         share = refl;
+        stints = refl;
       }
 
   -- who was begun is idle, with its first share

@@ -42,6 +42,7 @@ module _ {T H W : Type 0} where
     pub size : length t.held ≡ 64
     pub none : (m : ℕ) (x : T) → ¬ (get_elem? t.held m ≡ some (Some x))
     pub share : t.share ≡ Some (begin p.world n)
+    pub stints : t.stints ≡ []
 
   -- the thread n of the package, at rest and without a mutex
   pub record IsDone (p : Shape W) (n : ℕ) (t : Known T H W) : Type 0 where
