@@ -2,3 +2,4 @@ pub mod Placing
 pub mod Playing
 pub mod Regions
 pub mod Slots
+pub mod Visited

@@ -10,6 +10,7 @@ ghost use Rattle.nub.specs.Ended.{IsFirst};
 ghost use Rattle.script_text.specs.Text.{IsScript};
 ghost use Rattle.script_text.specs.Runs.{AreEventsOf, total};
 ghost use Rattle.script_run.specs.Playing.{IsPlayed};
+ghost use Rattle.script_run.specs.Visited.{AreVisited};
 
 use crate::forked::run_forked;
 use crate::play::play;
@@ -141,6 +142,7 @@ pub fn run_script<R: Threads + Wait + Sync, G: BeforeStart>(
     ensures trace { IfOk result (λ c. (h : List Event) × (c.trace ≡ Some h) × IsClosed script.now.layout.version h
         × AllByRecursion (HasNames script.now.layout) h × ((t : ℕ) → t < script.now.layout.threads
         → AreEventsOf script.now.layout.version script.now.lines t (by_thread t h))) }
+    ensures visits { IfOk result (λ c. (h : List Event) × (c.trace ≡ Some h) × AreVisited script.now.layout script.now.lines h) }
     ensures count { IfOk result (λ c. length c.values ≡ script.now.layout.mutexes) }
     ensures values { IfOk result (λ c. (m : ℕ) → m < script.now.layout.mutexes → slice_index c.values m ≡ total script.now.lines m) }
 {
@@ -162,6 +164,7 @@ fn run_all<R: Threads + Wait + Sync, G: BeforeStart>(
     ensures trace { IfOk result (λ c. (h : List Event) × (c.trace ≡ Some h) × IsClosed script.now.layout.version h
         × AllByRecursion (HasNames script.now.layout) h × ((t : ℕ) → t < script.now.layout.threads
         → AreEventsOf script.now.layout.version script.now.lines t (by_thread t h))) }
+    ensures visits { IfOk result (λ c. (h : List Event) × (c.trace ≡ Some h) × AreVisited script.now.layout script.now.lines h) }
     ensures count { IfOk result (λ c. length c.values ≡ script.now.layout.mutexes) }
     ensures values { IfOk result (λ c. (m : ℕ) → m < script.now.layout.mutexes → slice_index c.values m ≡ total script.now.lines m) }
 {

@@ -10,3 +10,4 @@ pub mod Held
 pub mod Drafts
 pub mod Finished
 pub mod Runs
+pub mod Visits
