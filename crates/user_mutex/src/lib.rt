@@ -5,12 +5,12 @@
 //! gets the mutex, nor that any thread is served before another.
 #![tactic(auto)]
 
-ghost use Rattle.std.specs.Prelude.{◌≡◌, ℕ, ◌<◌, ◌∷◌, ◌++◌, [], slice_set, Some, None};
+ghost use Rattle.std.specs.Prelude.{◌≡◌, ℕ, ◌<◌, ◌∷◌, [], slice_set, Some, None};
 ghost use mathlib.Core.Option.{some};
 ghost use lib.ListN.{get_elem?};
 ghost use Rattle.std.specs.Fn.{FnOnceReturnsAtMut};
 ghost use Rattle.nub_rule.specs.Known.{Holds};
-ghost use Rattle.nub_rule.specs.Plays.{acquire_event, release_event, stint};
+ghost use Rattle.nub_rule.specs.Plays.{acquire_event, release_event};
 ghost use Rattle.nub.specs.Rest.{AtRest, Adds, IsSame, LeavesStint};
 ghost use Rattle.nub.specs.Holding.{IsHolding};
 ghost use Rattle.nub.specs.Idle.{IsIdle};
@@ -127,8 +127,7 @@ pub fn locked<U: Uses, C: Change<U>, X, F: FnOnce(&mut U::Value) -> X, R: Wait>(
     ensures held { me.new.held ≡ me.old.held }
     ensures answer { (x : U.Value) × (y : U.Value) × FnOnceReturnsAtMut F.FnOnce f x result y
         × ((w : U.World) (s : U.Share) → me.old.world ≡ Some w → me.old.share ≡ Some s → U.fits w m.0 x me.old.number s
-        × (me.new.share ≡ Some (C.after w m.0 me.old.number x y s))
-        × (me.new.stints ≡ me.old.stints ++ stint C.after w m.0 me.old.number x y s ∷ [])) }
+        × (me.new.share ≡ Some (C.after w m.0 me.old.number x y s))) }
     ensures idle { (n : ℕ) (s : U.Share) → IsIdle p.now n s me.old → (x : U.Value) × (y : U.Value)
         × FnOnceReturnsAtMut F.FnOnce f x result y
         × U.fits p.now.world m.0 x n s × IsIdle p.now n (C.after p.now.world m.0 n x y s) me.new }

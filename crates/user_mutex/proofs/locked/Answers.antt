@@ -1,6 +1,5 @@
-use Rattle.std.proofs.Common.{◌≡◌, ◌++◌, ◌∷◌, [], ℕ, Some, rules, ap, sym, subst, ◌∙◌}
+use Rattle.std.proofs.Common.{◌≡◌, ℕ, Some, rules, sym, subst, ◌∙◌}
 use Rattle.std.specs.Fn.{FnOnceReturnsAtMut}
-use Rattle.nub_rule.specs.Plays.{stint}
 use Rattle.nub.proofs.Holding.{held_back}
 use Rattle.user_mutex.proofs.locked.Goals as goal
 
@@ -33,11 +32,9 @@ returns-clause-answer g c =
       x,
       y,
       returns,
-      λ w s world share.
-      let S : ℕ → Type 0 = λ n. c.release.new.me.stints ≡ c.acquire-value.new.me.stints ++ stint g.C.Change.after w m n x y s ∷ [] in (
+      λ w s world share. (
         c.acquire-value.ensures.fits w s world share,
         subst (λ (n : ℕ). c.release.new.me.share ≡ Some (g.C.Change.after w m n x y s)) same.number (c.release.ensures.share w s x (same.world ∙ world) (c.acquire-value.ensures.share ∙ share) c.acquire-value.ensures.holds),
-        subst S same.number (c.release.ensures.stint w s x (same.world ∙ world) (c.acquire-value.ensures.share ∙ share) c.acquire-value.ensures.holds) ∙ ap (λ l. l ++ stint g.C.Change.after w m c.args.me.now.number x y s ∷ []) c.acquire-value.ensures.stints,
       ),
     )
 
