@@ -1,5 +1,5 @@
 -- What a step leaves of a thread: that it is one still, and what contracts see of it. And the slot that a step is on, at the front of the thread's hand.
-use Rattle.std.proofs.Common.{Bool, ◌≡◌, ℕ, ◌<◌, ◌≤◌, List, [], ◌∷◌, ◌++◌, length, length-set, set, refl, sym, ap, ◌∙◌, subst, arith, Some, None}
+use Rattle.std.proofs.Common.{◌≡◌, ℕ, ◌<◌, ◌≤◌, List, [], ◌∷◌, ◌++◌, length, length-set, set, refl, sym, ap, ◌∙◌, subst, arith, Some, None}
 use Rattle.std.specs.Prelude.{Option as Opt}
 use mathlib.Core.Option.{some}
 use lib.ListN.{get_elem?}

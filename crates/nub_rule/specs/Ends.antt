@@ -1,5 +1,5 @@
 -- What a package begins with, and what it leaves.
-use Rattle.std.specs.Prelude.{false, ◌≡◌, ◌≢◌, ℕ, ◌<◌, List, [], ◌++◌, map, length, replicate, slice_index, Option as Opt, Some}
+use Rattle.std.specs.Prelude.{◌≡◌, ◌≢◌, ℕ, ◌<◌, List, [], ◌++◌, map, length, replicate, slice_index, Option as Opt, Some}
 use Rattle.std.specs.List.{range_with_len}
 use mathlib.Core.Option.{none, some}
 use lib.ListN.{get_elem?}

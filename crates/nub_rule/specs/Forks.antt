@@ -1,6 +1,6 @@
 -- The right to fork a thread, what is left of a thread that has ended, and all of these in order of
 -- their numbers.
-use Rattle.std.specs.Prelude.{◌≡◌, ◌≢◌, ℕ, zero, suc, ◌<◌, cond, eqb, false, List, [], ◌∷◌, ◌++◌, Some, None}
+use Rattle.std.specs.Prelude.{◌≡◌, ◌≢◌, ℕ, zero, suc, ◌<◌, cond, eqb, List, [], ◌∷◌, ◌++◌, Some, None}
 use Rattle.larch_actions.specs.declared.event.Life.TheVariants.{Live, Ended}
 use Rattle.larch_actions.specs.declared.event.Version.{Version}
 use Rattle.atomic_table.specs.Seated.{TableId}

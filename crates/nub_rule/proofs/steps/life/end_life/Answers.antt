@@ -1,5 +1,4 @@
 use Rattle.std.proofs.Common.{Bool, arith, ◌≡◌, ◌∙◌, ap, sym, subst, refl}
-use lib.ListN.{get_elem?}
 use Rattle.larch_actions.specs.declared.event.Life.{Life}
 use Rattle.larch_actions.specs.declared.event.Life.TheVariants.{Ended}
 use Rattle.nub_rule.specs.declared.view.Pen.{Pen}

@@ -1,4 +1,4 @@
-use Rattle.std.proofs.Common.{rules, arith, ◌≡◌, ◌<◌, ◌∙◌, ◌∷◌, [], ℕ, ap, sym, subst, length, refl, Some, None}
+use Rattle.std.proofs.Common.{arith, ◌≡◌, ◌<◌, ◌∙◌, ◌∷◌, [], ℕ, ap, sym, subst, length, refl, Some, None}
 use Rattle.larch_actions.specs.Sets.{mem, without}
 use Rattle.nub_rule.specs.declared.rule.Slot.TheVariants.{Queue}
 use Rattle.nub_rule.specs.Items.{Small, no_queue, queue_of}
