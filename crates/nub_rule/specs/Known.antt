@@ -102,6 +102,10 @@ module _ {T H W : Type 0} where
     next = next;
   }
 
+  -- the thread k, but with allocated room for so many events
+  abbrev pub with_room_for : ℕ → Known T H W → Known T H W
+  with_room_for capacity k = record k { space = record k.space { capacity = capacity } }
+
   -- the thread a, but with what b has seen, made and stored and the number that b read, and its
   -- part then changed by f
   abbrev pub recorded : Known T H W → Known T H W → (Part T H → Part T H) → Known T H W

@@ -107,7 +107,7 @@ impl<U: Uses> Package<U> {
 
 impl<U: Uses> Thread<U> {
     ghost use Rattle.std.specs.Prelude.{◌≡◌, ◌+◌, ◌<◌, ◌≤◌, length, true, false, OnOk, OnErr};
-    ghost use Rattle.nub_rule.specs.Known.{Holds};
+    ghost use Rattle.nub_rule.specs.Known.{Holds, with_room_for};
 
     /// Returns the number of the thread.
     #[inline]
@@ -138,8 +138,7 @@ impl<U: Uses> Thread<U> {
     /// threads[at].reserve(further)?;
     /// ```
     pub fn reserve(&mut self, further: usize) -> Result<(), AllocError>
-        ensures same { self.new ≡ record self.old { space = self.new.space } }
-        ensures lost { self.new.lost ≡ self.old.lost }
+        ensures same { self.new ≡ with_room_for self.new.capacity self.old }
         ensures grown { self.old.capacity ≤ self.new.capacity }
         ensures room { OnOk result (length self.new.entries + further ≤ self.new.capacity) }
         ensures full { OnErr result (self.old.capacity < length self.old.entries + further) }
