@@ -14,6 +14,7 @@ use Rattle.barrier_once.specs.Calls.{Arrived, Enters, IsPlaced, RoundThread, Vis
 use Rattle.barrier_once.specs.declared.cell.Cell.TheVariants.{Once}
 use Rattle.barrier_once.specs.Cells.{once_of}
 use Rattle.barrier_once.specs.Rounds.{MayAdd, MayArrive, added_share, agreed_share as once_share, fresh_share, passed_share}
+use Rattle.barrier_once.specs.Walks.{RoundStint}
 use Rattle.barrier_once.specs.RoundLaws.{one_more}
 use Rattle.command_rounds.specs.Playing.{HasWalked, IsBetween, IsHalfway, IsPlaying, IsTable, round_at}
 use Rattle.command_rounds.specs.RoundEvents.{asked, AreEventsOf, IsArrivalOf, IsRoundOf, visit}
@@ -77,8 +78,9 @@ pub visited_once : (p : Shape RoundWorld) (t v : ℕ) (X : Type 0) (r : RoundSha
     → Enters a.number 2 x (Once (Some v)) fresh_share (once_share x (Once (Some v)) fresh_share) a e → (once_of x ≡ None → v ≡ t + 1) → IsBetween p t r ([] ++ visit t 2) e
 visited_once p t v X r x a e first rest same ran held share has one offers =
     let is = agreed_share X v r has in
-    let walked = walked_once t v r _ refl refl refl refl offers is.0 is.1 is.3 in
-    visited p t 2 fresh_share r [] a e (first_between p t a first) rest same ran held share (subst (HasWalked t r ([] ++ visit t 2)) (sym (one ∙ ap (λ l. l ++ _ ∷ []) first.stints)) walked)
+    let stint : RoundStint = record { thread = a.number; mutex = 2; got = x; left = Once (Some v); before = fresh_share; after = once_share x (Once (Some v)) fresh_share } in
+    let walked = walked_once t v r stint refl refl refl refl offers is.0 is.1 is.3 in
+    visited p t 2 fresh_share r [] a e (first_between p t a first) rest same ran held share (subst (HasWalked t r ([] ++ visit t 2)) (sym (one ∙ ap (λ l. l ++ stint ∷ []) first.stints)) walked)
 
 -- after an arrival
 pub arrived : (p : Shape RoundWorld) (t : ℕ) (s : RoundShare) (es : List Event) (a e : RoundThread) → IsBetween p t s es a → AtRest p e → IsSame a e → Arrived a.number 0 0 s a e → e.held ≡ a.held → e.share ≡ Some (passed_share s)

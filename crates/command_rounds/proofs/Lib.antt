@@ -3,3 +3,5 @@ pub mod Between
 pub mod Closing
 pub mod Noting
 pub mod Walked
+pub mod Stinted
+pub mod Apart

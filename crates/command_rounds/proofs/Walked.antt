@@ -81,7 +81,7 @@ walks_mutex : (m came left : ℕ) (es : List Event) (ss : List RoundStint) → W
 walks_mutex m came left [] ss w = subst (AllByRecursion (λ s. s.mutex ≡ m)) (sym w) tt
 walks_mutex m came left (e ∷ es) ss w =
     let own = ends_mutex m (gives m e.action) (releases m e.action) came left w.0 w.3 in
-    subst (AllByRecursion (λ s. s.mutex ≡ m)) (sym w.2) (all_append (λ s. s.mutex ≡ m) w.0 w.1 own (walks_mutex m _ _ es w.1 w.4))
+    subst (AllByRecursion (λ s. s.mutex ≡ m)) (sym w.2) (all_append (λ s. s.mutex ≡ m) w.0 w.1 own (walks_mutex m (came + cond (acquires m e.action) 1 0) (left + cond (releases m e.action) 1 0) es w.1 w.4))
   where
     ends_mutex : (m : ℕ) (given released : Bool) (came left : ℕ) (ss : List RoundStint) → EndsStints m given released came left ss → AllByRecursion (λ s. s.mutex ≡ m) ss
     ends_mutex m false released came left ss e = subst (AllByRecursion (λ s. s.mutex ≡ m)) (sym e) tt

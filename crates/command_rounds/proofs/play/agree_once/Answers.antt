@@ -22,5 +22,5 @@ returns g c =
     let stint = did.stint fresh_share b.idle.share in
     let x = stint.0 in
     let one = subst (λ l. Enters t l.once.0 x (Once (Some v)) fresh_share (agreed_share x (Once (Some v)) fresh_share) a e) at stint.2 in
-    let offers : once_of x ≡ None → v ≡ t + 1 = λ z. let own = stint.1 z in omega (arith, own, c.from-own.ensures, c.number.ensures) in
+    let offers : once_of x ≡ None → v ≡ t + 1 = λ z. let own = stint.1 z in omega (arith, own, c.from.ensures, c.number.ensures) in
     agreed p t v _ had.0 e had.2 (visited_once p t v _ had.0 x a e first did.rest did.same ran did.held had.1 had.2 one offers)
