@@ -29,49 +29,47 @@ nothing_there : (X : Type 0) (xs : List ℕ) (y : ℕ) (ys : List ℕ) → [] �
 nothing_there X [] y ys e = cc
 nothing_there X (x ∷ xs) y ys e = cc
 
-head_same : {A : Type 0} (x y : A) (xs ys : List A) → x ∷ xs ≡ y ∷ ys → x ≡ y
+pub head_same : {A : Type 0} (x y : A) (xs ys : List A) → x ∷ xs ≡ y ∷ ys → x ≡ y
 head_same x y xs ys e = cc
 
-tail_same : {A : Type 0} (x y : A) (xs ys : List A) → x ∷ xs ≡ y ∷ ys → xs ≡ ys
+pub tail_same : {A : Type 0} (x y : A) (xs ys : List A) → x ∷ xs ≡ y ∷ ys → xs ≡ ys
 tail_same x y xs ys e = cc
+
+later_parted : (m : ℕ) (s : RoundStint) (ss : List RoundStint) (xs ys : List ℕ) (y : ℕ) (own : Bool) → eqb s.mutex m ≡ own → cond own (s.thread ∷ xs) xs ≡ ys → IsParted m ss xs y → IsParted m (s ∷ ss) ys y
+later_parted m s ss xs ys y own is same later =
+    let made : map (λ (s : RoundStint). s.thread) (cond own (s ∷ stints_at m later.front) (stints_at m later.front)) ≡ cond own (s.thread ∷ stinters m later.front) (stinters m later.front) =
+        elim own as (λ b. map (λ (s : RoundStint). s.thread) (cond b (s ∷ stints_at m later.front) (stints_at m later.front)) ≡ cond b (s.thread ∷ stinters m later.front) (stinters m later.front)) [ true ↦ refl | false ↦ refl ]
+    in
+    record {
+      front = s ∷ later.front;
+      stint = later.stint;
+      behind = later.behind;
+      are = ap (λ l. s ∷ l) later.are;
+      stinters = ap (λ (b : Bool). map (λ (s : RoundStint). s.thread) (cond b (s ∷ stints_at m later.front) (stints_at m later.front))) is ∙ (made ∙ (ap (λ l. cond own (s.thread ∷ l) l) later.stinters ∙ same));
+      mutex = later.mutex;
+      thread = later.thread;
+    }
 
 -- the stint of this one of those who had the mutex
 pub parted : (m : ℕ) (ss : List RoundStint) (xs : List ℕ) (y : ℕ) (ys : List ℕ) → stinters m ss ≡ xs ++ y ∷ ys → IsParted m ss xs y
 parted m [] xs y ys e = nothing_there (IsParted m [] xs y) xs y ys e
-parted m (s ∷ ss) xs y ys e =
-    let P : Bool → Type 0 = λ b. map (λ (s : RoundStint). s.thread) (cond b (s ∷ stints_at m ss) (stints_at m ss)) ≡ xs ++ y ∷ ys in
+parted m (s ∷ ss) [] y ys e =
+    let P : Bool → Type 0 = λ b. map (λ (s : RoundStint). s.thread) (cond b (s ∷ stints_at m ss) (stints_at m ss)) ≡ y ∷ ys in
     elim (eqb_tells s.mutex m) [
-      | inl q ↦ here m s ss xs y ys q.0 q.1 (subst P q.0 e)
-      | inr q ↦
-          let later = parted m ss xs y ys (subst P q.0 e) in
-          record {
-            front = s ∷ later.front;
-            stint = later.stint;
-            behind = later.behind;
-            are = ap (λ l. s ∷ l) later.are;
-            stinters = ap (λ (b : Bool). map (λ (s : RoundStint). s.thread) (cond b (s ∷ stints_at m later.front) (stints_at m later.front))) q.0 ∙ later.stinters;
-            mutex = later.mutex;
-            thread = later.thread;
-          }
+      | inl q ↦ record { front = []; stint = s; behind = ss; are = refl; stinters = refl; mutex = q.1; thread = head_same s.thread y (stinters m ss) ys (subst P q.0 e) }
+      | inr q ↦ later_parted m s ss [] [] y false q.0 refl (parted m ss [] y ys (subst P q.0 e))
     ]
-  where
-    here : (m : ℕ) (s : RoundStint) (ss : List RoundStint) (xs : List ℕ) (y : ℕ) (ys : List ℕ) → eqb s.mutex m ≡ true → s.mutex ≡ m → s.thread ∷ stinters m ss ≡ xs ++ y ∷ ys → IsParted m (s ∷ ss) xs y
-    here m s ss [] y ys own mutex e = record { front = []; stint = s; behind = ss; are = refl; stinters = refl; mutex = mutex; thread = head_same s.thread y (stinters m ss) ys e }
-    here m s ss (x ∷ xs) y ys own mutex e =
-        let later = parted m ss xs y ys (tail_same s.thread x (stinters m ss) (xs ++ y ∷ ys) e) in
-        record {
-          front = s ∷ later.front;
-          stint = later.stint;
-          behind = later.behind;
-          are = ap (λ l. s ∷ l) later.are;
-          stinters = ap (λ (b : Bool). map (λ (s : RoundStint). s.thread) (cond b (s ∷ stints_at m later.front) (stints_at m later.front))) own
-              ∙ (ap (λ l. s.thread ∷ l) later.stinters ∙ ap (λ n. n ∷ xs) (head_same s.thread x (stinters m ss) (xs ++ y ∷ ys) e));
-          mutex = later.mutex;
-          thread = later.thread;
-        }
+parted m (s ∷ ss) (x ∷ xs) y ys e =
+    let P : Bool → Type 0 = λ b. map (λ (s : RoundStint). s.thread) (cond b (s ∷ stints_at m ss) (stints_at m ss)) ≡ x ∷ (xs ++ y ∷ ys) in
+    elim (eqb_tells s.mutex m) [
+      | inl q ↦
+          let own = subst P q.0 e in
+          later_parted m s ss xs (x ∷ xs) y true q.0 (ap (λ n. n ∷ xs) (head_same s.thread x (stinters m ss) (xs ++ y ∷ ys) own)) (parted m ss xs y ys (tail_same s.thread x (stinters m ss) (xs ++ y ∷ ys) own))
+      | inr q ↦ later_parted m s ss (x ∷ xs) (x ∷ xs) y false q.0 refl (parted m ss (x ∷ xs) y ys (subst P q.0 e))
+    ]
 
 -- how often a thread is in a list
-pub times : ℕ → List ℕ → ℕ
+abbrev pub times : ℕ → List ℕ → ℕ
 times u [] = 0
 times u (x ∷ xs) = cond (eqb x u) (suc (times u xs)) (times u xs)
 
