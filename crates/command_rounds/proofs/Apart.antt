@@ -13,7 +13,8 @@ use Rattle.nub.specs.Ended.{IsWhole, KeepsStints}
 use Rattle.nub_rule.specs.Items.{Each}
 use Rattle.nub_rule.specs.Known.{Shape}
 use Rattle.nub_rule.specs.Plays.{release_event}
-use Rattle.nub_rule.specs.Stints.{StintsLead, gives, givers, stinters, stints_at, stints_by}
+use Rattle.larch_actions.specs.Takers.{gives, givers}
+use Rattle.nub_rule.specs.Stints.{StintsLead, stinters, stints_at, stints_by}
 use Rattle.barrier_once.specs.declared.cell.Cell.{Cell}
 use Rattle.barrier_once.specs.declared.share.RoundShare.{RoundShare}
 use Rattle.barrier_once.specs.declared.share.RoundWorld.{RoundWorld}

@@ -9,7 +9,8 @@ use Rattle.atomic_table.proofs.Lists.{set_here, set_else}
 use Rattle.nub.proofs.Users.{from_at}
 use Rattle.larch_actions.specs.declared.event.Event.{Event}
 use Rattle.larch_actions.specs.Actions.{by_thread}
-use Rattle.nub_rule.specs.Stints.{StintsLead, gives, givers, stinters, stints_at, stints_by}
+use Rattle.larch_actions.specs.Takers.{gives, givers}
+use Rattle.nub_rule.specs.Stints.{StintsLead, stinters, stints_at, stints_by}
 use Rattle.barrier_once.specs.declared.cell.Cell.{Cell}
 use Rattle.barrier_once.specs.declared.share.RoundShare.{RoundShare}
 use Rattle.barrier_once.specs.Walks.{RoundStint, how_many}
