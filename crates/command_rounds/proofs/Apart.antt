@@ -188,6 +188,15 @@ at_middle : (P : Event → Type 0) (a b : List Event) (e : Event) → AllByRecur
 at_middle P [] b e all = all.0
 at_middle P (x ∷ a) b e all = at_middle P a b e all.1
 
+-- the share of each thread is fresh before its first stint
+pub fresh_first : (p : Shape RoundWorld) (w : RoundWorld) (rounds : ℕ) (threads : List RoundThread) (values : List Cell) (h : List Event) (keeps : KeepsStints (AreRounds w) threads values h) → Each (λ t k. IsPlaying p t rounds k) threads
+    → (u : ℕ) → u < length threads → get_elem? keeps.first_shares u ≡ some fresh_share
+fresh_first p w rounds threads values h keeps played u low =
+    let at = at_place threads u low in
+    let did = played u at.0 at.1 in
+    let begun = did.between.walked.begun did.agreed.0 did.agreed.1 in
+    lead_first (AreRounds w) keeps.first keeps.first_shares keeps.stints values keeps.shares u begun.first begun.others keeps.lead (keeps.own u at.0 at.1 ∙ begun.are) ∙ ap (λ (z : RoundShare). some z) begun.before
+
 pub stinted_of : (l : Layout) (p : Shape RoundWorld) (w : RoundWorld) (rounds count : ℕ) (threads : List RoundThread) (values : List Cell) (h : List Event) → length threads ≡ count → IsWhole l threads h → (keeps : KeepsStints (AreRounds w) threads values h) → Each (λ t k. IsPlaying p t rounds k) threads
     → AreStinted w count h keeps.stints
 stinted_of l p w rounds count threads values h size whole keeps played = record {
@@ -197,11 +206,7 @@ stinted_of l p w rounds count threads values h size whole keeps played = record 
   shares = keeps.shares;
   lead = keeps.lead;
   gives = keeps.gives 0;
-  fresh = λ u low.
-      let at = at_place threads u (omega arith) in
-      let did = played u at.0 at.1 in
-      let begun = did.between.walked.begun did.agreed.0 did.agreed.1 in
-      lead_first (AreRounds w) keeps.first keeps.first_shares keeps.stints values keeps.shares u begun.first begun.others keeps.lead (keeps.own u at.0 at.1 ∙ begun.are) ∙ ap (λ (z : RoundShare). some z) begun.before;
+  fresh = λ u low. fresh_first p w rounds threads values h keeps played u (omega arith);
   walks = λ u low.
       let at = at_place threads u (omega arith) in
       let did = played u at.0 at.1 in

@@ -5,3 +5,4 @@ pub mod Noting
 pub mod Walked
 pub mod Stinted
 pub mod Apart
+pub mod First

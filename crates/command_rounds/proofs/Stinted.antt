@@ -93,7 +93,7 @@ own_count u m (s ∷ ss) =
     ]
 
 -- and gives a mutex back as often as it is among the givers
-either : (b : Bool) → (b ≡ true) ⊎ (b ≡ false)
+pub either : (b : Bool) → (b ≡ true) ⊎ (b ≡ false)
 either true = inl refl
 either false = inr refl
 
