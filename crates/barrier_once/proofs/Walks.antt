@@ -30,7 +30,7 @@ walks_on m came left (e ∷ es) fs ss rs w v =
     let l = cond (releases m e.action) 1 0 in
     let P : ℕ → ℕ → Type 0 = λ i j. Walks m i j fs rs in
     let at : P ((came + c) + how_many (acquires m) es) ((left + l) + how_many (releases m) es) =
-        subst (λ i. P i ((left + l) + how_many (releases m) es)) (plus_more came c (how_many (acquires m) es)) (subst (P (came + (c + how_many (acquires m) es))) (plus_more left l (how_many (releases m) es)) v)
+    subst (λ i. P i ((left + l) + how_many (releases m) es)) (plus_more came c (how_many (acquires m) es)) (subst (P (came + (c + how_many (acquires m) es))) (plus_more left l (how_many (releases m) es)) v)
     in
     (w.0, w.1 ++ rs, ap (λ z. z ++ rs) w.2 ∙ append_assoc w.0 w.1 rs, w.3, walks_on m (came + c) (left + l) es fs w.1 rs w.4 at)
 
@@ -47,8 +47,8 @@ pub walks_past : (m came left : ℕ) (e : Event) (es : List Event) (ss : List Ro
 walks_past m came left e es ss gives_none acquires_none releases_none w =
     let P : ℕ → ℕ → Type 0 = λ i j. Walks m i j es ss in
     let at : P (came + cond (acquires m e.action) 1 0) (left + cond (releases m e.action) 1 0) =
-        subst (λ (b : Bool). P (came + cond b 1 0) (left + cond (releases m e.action) 1 0)) (sym acquires_none)
-            (subst (λ (b : Bool). P (came + 0) (left + cond b 1 0)) (sym releases_none) (subst (λ i. P i (left + 0)) (sym (zero_more came)) (subst (P came) (sym (zero_more left)) w)))
+    subst (λ (b : Bool). P (came + cond b 1 0) (left + cond (releases m e.action) 1 0)) (sym acquires_none)
+    (subst (λ (b : Bool). P (came + 0) (left + cond b 1 0)) (sym releases_none) (subst (λ i. P i (left + 0)) (sym (zero_more came)) (subst (P came) (sym (zero_more left)) w)))
     in
     let none : EndsStints m (gives m e.action) (releases m e.action) came left [] = subst (λ (b : Bool). EndsStints m b (releases m e.action) came left []) (sym gives_none) refl in
     ([], ss, refl, none, at)

@@ -165,7 +165,7 @@ all_come w threads h ss is a b t u parts low =
     let came = how_many (acquires 0) (by_thread t a) in
     let gone = how_many (releases 0) (by_thread t a) in
     let last = released_last t came gone (by_thread t b) s (stints_at 0 (stints_by t at.behind)) (subst (λ k. Walks 0 came gone k (s ∷ stints_at 0 (stints_by t at.behind))) (own_release t b)
-        (subst (Walks 0 came gone (by_thread t (e ∷ b))) (own_stint t s at.behind at.thread at.mutex) mine.walks)) in
+    (subst (Walks 0 came gone (by_thread t (e ∷ b))) (own_stint t s at.behind at.thread at.mutex) mine.walks)) in
     let to_here = a ++ e ∷ [] in
     let front = at.front ++ s ∷ [] in
     let stinters_here : stinters 0 front ≡ givers 0 to_here = one_stinter at.front s at.mutex ∙ (ap (λ l. l ++ s.thread ∷ []) at.stinters ∙ (ap (λ n. givers 0 a ++ n ∷ []) at.thread ∙ sym (one_giver t a))) in

@@ -39,7 +39,7 @@ tail_same x y xs ys e = cc
 later_parted : (m : ℕ) (s : RoundStint) (ss : List RoundStint) (xs ys : List ℕ) (y : ℕ) (own : Bool) → eqb s.mutex m ≡ own → cond own (s.thread ∷ xs) xs ≡ ys → IsParted m ss xs y → IsParted m (s ∷ ss) ys y
 later_parted m s ss xs ys y own is same later =
     let made : map (λ (s : RoundStint). s.thread) (cond own (s ∷ stints_at m later.front) (stints_at m later.front)) ≡ cond own (s.thread ∷ stinters m later.front) (stinters m later.front) =
-        elim own as (λ b. map (λ (s : RoundStint). s.thread) (cond b (s ∷ stints_at m later.front) (stints_at m later.front)) ≡ cond b (s.thread ∷ stinters m later.front) (stinters m later.front)) [ true ↦ refl | false ↦ refl ]
+    elim own as (λ b. map (λ (s : RoundStint). s.thread) (cond b (s ∷ stints_at m later.front) (stints_at m later.front)) ≡ cond b (s.thread ∷ stinters m later.front) (stinters m later.front)) [ true ↦ refl | false ↦ refl ]
     in
     record {
       front = s ∷ later.front;

@@ -56,8 +56,8 @@ pub fn alert_wait_once<R: Wait>(
         × IsInLine pkg.now me.old.number xs es vs start hand numbers.old me.old × HasMutex pkg.now.layout me.old.number xs mutex.0 }
     ensures { (xs : List Line) (es : List Event) (vs : List Visit) (start hand : Hand)
         → IsInLine pkg.now me.old.number xs es vs start hand numbers.old me.old → HasMutex pkg.now.layout me.old.number xs mutex.0
-        → IsInLine pkg.now me.old.number xs (es ++ alertable result me.old.number mutex cond) (vs ++ leaves me.old.number mutex hand ∷ []) start
-        (gets mutex (slice_index numbers.new mutex.0) hand) numbers.new me.new }
+        → IsInLine pkg.now me.old.number xs (es ++ alertable result me.old.number mutex cond)
+        (vs ++ leaves me.old.number mutex hand ∷ []) start (gets mutex (slice_index numbers.new mutex.0) hand) numbers.new me.new }
 {
     let at = mutex.0 as usize;
     let number = numbers[at];

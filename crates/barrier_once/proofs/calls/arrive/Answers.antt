@@ -45,7 +45,7 @@ returns-clause-ran g c = λ s mine.
     let bar = at_bar p at c.acquire-bar.result own.0 c.args.me.now c.acquire-bar.new.me c.requires.placed c.requires.world own.1 own.2 got.rest got.same got.holds got.share got.fits in
     let left = c.stay.ensures own.0 bar in
     subst (λ u. Arrived c.args.me.now.number at.bar.0 at.cond.0 u c.args.me.now c.stay.new.me) (same_Some own.0 s (sym own.1 ∙ mine))
-        (arrived_at p at own.0 c.args.me.now c.acquire-bar.new.me c.stay.new.me got.same got.event got.stints left)
+    (arrived_at p at own.0 c.args.me.now c.acquire-bar.new.me c.stay.new.me got.same got.event got.stints left)
 
 pub returns-clause-held : goal.returns-clause-held
 returns-clause-held g c =
