@@ -19,7 +19,7 @@ use Rattle.lock_order.specs.declared.lock_graph.LockGraph.{LockGraph}
 use Rattle.lock_order.specs.Order.{IsFirst, ReportsCycle}
 use Rattle.lock_order.specs.Kept.{IsKept}
 use Rattle.trace_shapes.specs.declared.view.DrawnRange.{DrawnRange}
-use Rattle.trace_board.specs.Tracked.{Tracked, nothing_tracked, tracked_after}
+use Rattle.trace_picture.specs.Shown.{Drawn, nothing_drawn, drawn_after}
 use Rattle.trace_picture.specs.Picture.{head_text}
 use Rattle.trace_picture.specs.Bands.{step_text}
 use Rattle.trace_shapes.specs.Places.{band_of, event_x}
@@ -29,12 +29,12 @@ use Rattle.trace_shapes.proofs.Added.{added_six}
 use Rattle.trace_picture.proofs.Drawing.{IsDrawing, drawing_starts, drawing_room, drawing_steps}
 
 -- so far these events were read and drawn, and where that is wanted it is kept what they nest
-pub record IsRinging (budget : ℕ) (left₀ : Option (List ℕ)) (before : ℕ) (st : ReaderState) (now : ℕ) (m : Moment) (count : ℕ) (v : DrawnRange) (reported₀ reported : Option (List ℕ)) (kept : List ℕ) (k : Tracked) (on : Bool) (n : LockGraph) : Type 0 where
+pub record IsRinging (budget : ℕ) (left₀ : Option (List ℕ)) (before : ℕ) (st : ReaderState) (now : ℕ) (m : Moment) (count : ℕ) (v : DrawnRange) (reported₀ reported : Option (List ℕ)) (kept : List ℕ) (k : Drawn) (on : Bool) (n : LockGraph) : Type 0 where
   pub drawing : IsDrawing budget left₀ before st now m count v reported₀ reported kept k
   pub noted : on ≡ true → IsKept drawing.under_way.events (spec_of m) n
 
-pub ringing_starts : (budget : ℕ) (left₀ : Option (List ℕ)) (before now : ℕ) (p p' : ReaderState) (l : Layout) (m : Moment) (v : DrawnRange) (reported : Option (List ℕ)) (kept : List ℕ) (k : Tracked) (on : Bool) (n : LockGraph)
-    → p.rest ≡ left₀ → p.room ≡ budget → p.lines ≡ 0 → TakesHead p p' l → before ≤ now → m.layout ≡ l → spec_of m ≡ at_first l.version → kept ≡ [] ++ head_text l → k ≡ nothing_tracked → ((version : Version) → IsKept [] (at_first version) n)
+pub ringing_starts : (budget : ℕ) (left₀ : Option (List ℕ)) (before now : ℕ) (p p' : ReaderState) (l : Layout) (m : Moment) (v : DrawnRange) (reported : Option (List ℕ)) (kept : List ℕ) (k : Drawn) (on : Bool) (n : LockGraph)
+    → p.rest ≡ left₀ → p.room ≡ budget → p.lines ≡ 0 → TakesHead p p' l → before ≤ now → m.layout ≡ l → spec_of m ≡ at_first l.version → kept ≡ [] ++ head_text l → k ≡ nothing_drawn → ((version : Version) → IsKept [] (at_first version) n)
     → IsRinging budget left₀ before p' now m 0 v reported reported kept k on n
 unfolding starts_on drawing_starts
 ringing_starts budget left₀ before now p p' l m v reported kept k on n rest room lines t le laid first text none empty = record {
@@ -42,7 +42,7 @@ ringing_starts budget left₀ before now p p' l m v reported kept k on n rest ro
   noted = λ wanted. subst (λ (z : Spec). IsKept [] z n) (sym first) (empty l.version);
 }
 
-module _ (budget : ℕ) (left₀ : Option (List ℕ)) (before now : ℕ) (p : ReaderState) (m : Moment) (count : ℕ) (v : DrawnRange) (reported₀ reported : Option (List ℕ)) (kept : List ℕ) (k : Tracked) (on : Bool) (n : LockGraph)
+module _ (budget : ℕ) (left₀ : Option (List ℕ)) (before now : ℕ) (p : ReaderState) (m : Moment) (count : ℕ) (v : DrawnRange) (reported₀ reported : Option (List ℕ)) (kept : List ℕ) (k : Drawn) (on : Bool) (n : LockGraph)
     (r : IsRinging budget left₀ before p now m count v reported₀ reported kept k on n) where
   pub ringing_room : (reported' : Option (List ℕ)) (kept' : List ℕ) → Flows reported reported' kept kept' [] → IsRinging budget left₀ before p now m count v reported₀ reported' kept' k on n
   unfolding drawing_room
@@ -51,8 +51,8 @@ module _ (budget : ℕ) (left₀ : Option (List ℕ)) (before now : ℕ) (p : Re
     noted = r.noted;
   }
 
-  pub ringing_steps : (now' : ℕ) (p' : ReaderState) (m' : Moment) (e : Event) (kept' : List ℕ) (k' : Tracked) (n' : LockGraph) (l : Layout) → l ≡ p.layout → budget < 2 ^ 64 - 1 → TakesEvent p p' e → Acts (spec_of m) e (spec_of m') → m'.layout ≡ m.layout → now ≤ now'
-      → kept' ≡ kept ++ step_text l v k count e → k' ≡ tracked_after count e k
+  pub ringing_steps : (now' : ℕ) (p' : ReaderState) (m' : Moment) (e : Event) (kept' : List ℕ) (k' : Drawn) (n' : LockGraph) (l : Layout) → l ≡ p.layout → budget < 2 ^ 64 - 1 → TakesEvent p p' e → Acts (spec_of m) e (spec_of m') → m'.layout ≡ m.layout → now ≤ now'
+      → kept' ≡ kept ++ step_text l v k.board count e → k' ≡ drawn_after l v count e k
       → (on ≡ true → (es : List Event) (s s' : Spec) → count ≡ length es → Acts s e s' → IsKept es s n → IsKept (es ++ e ∷ []) s' n')
       → IsRinging budget left₀ before p' now' m' (count + 1) v reported₀ reported kept' k' on n'
   unfolding step_on drawing_steps

@@ -165,11 +165,14 @@ fork_by b o _ = []
 unfoldable pub arrows_at : Band → Tracked → Origin → Effects → List ℕ
 arrows_at b k o m = arrow_by b k o m.wait m.waker ++ wakes_by b o k.stands m.stand ++ fork_by b o m.life
 
--- the event n: the row that it begins or ends, its mark and the number of its object, the bars that it ends, and the arrows from it and to it
-unfoldable pub event_shapes : Band → Tracked → ℕ → Event → List ℕ
-event_shapes b k n e =
+-- the event n: the row that it begins or ends, its mark and the number of its object, and the bars that it ends
+unfoldable pub event_marks : Band → Tracked → ℕ → Event → List ℕ
+event_marks b k n e =
     number_text b n ++ life_row b n (marks e).life ++ mark_text b n e ++ object_if b n e ++ bars_ended (up_to b n) k (marks e)
-    ++ arrows_at b k (origin_of n e) (marks e)
+
+-- and the arrows from it and to it
+unfoldable pub event_shapes : Band → Tracked → ℕ → Event → List ℕ
+event_shapes b k n e = event_marks b k n e ++ arrows_at b k (origin_of n e) (marks e)
 
 -- all that the event n adds, where it is drawn
 unfoldable pub step_text : Layout → DrawnRange → Tracked → ℕ → Event → List ℕ

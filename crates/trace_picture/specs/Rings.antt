@@ -13,10 +13,11 @@ use Rattle.lock_order.specs.declared.lock_graph.LockGraph.{LockGraph}
 use Rattle.lock_order.specs.Order.{HasCycle, ReportsCycle}
 use Rattle.lock_order.specs.Kept.{IsKept}
 use Rattle.trace_shapes.specs.declared.view.DrawnRange.{DrawnRange}
-use Rattle.trace_board.specs.Tracked.{Tracked, tracked_since, extended}
+use Rattle.trace_board.specs.Tracked.{extended}
 use Rattle.trace_shapes.specs.Places.{in_view, band_of, event_x, mark_y, band_top}
 use Rattle.trace_shapes.specs.Shapes.{with_number}
 use Rattle.trace_picture.specs.Bands.{band_number}
+use Rattle.trace_picture.specs.Shown.{Drawn, drawn_since}
 use Rattle.trace_picture.specs.Verdicts.{legal_words, counted_line}
 use Rattle.trace_picture.specs.declared.verdicts.TheConstants.{TWO_LINES}
 use Rattle.trace_picture.specs.Picture.{closing_if, end_text, ending, prefix_picture}
@@ -60,24 +61,24 @@ abbrev pub ringed_line : DrawnRange → ℕ → Summary → List Edge → List �
 ringed_line v n s ns = counted_line v n ringed_words (Some s) ++ cycle_text ns
 
 -- the end of the picture of n events, with rings around the events of this cycle
-abbrev pub ringed_ending : Layout → DrawnRange → Tracked → ℕ → Summary → List Edge → List ℕ
-ringed_ending l v k n s ns = closing_if l v k n ++ rings_text l v ns ++ end_text l v k n TWO_LINES (ringed_line v n s ns)
+abbrev pub ringed_ending : Layout → DrawnRange → Drawn → ℕ → Summary → List Edge → List ℕ
+ringed_ending l v d n s ns = closing_if l v d.board n ++ rings_text l v ns ++ end_text l v d n TWO_LINES (ringed_line v n s ns)
 
 -- A cycle of the events is ringed, or they have none and this is said.
-abbrev pub ShowsOrdered : Layout → DrawnRange → Tracked → ℕ → Summary → List Event → List ℕ → Type 0
-ShowsOrdered l v k n s es text =
-    ((ns : List Edge) × ReportsCycle es ns × (text ≡ ringed_ending l v k n s ns))
-    ⊎ ((¬ HasCycle es) × (text ≡ ending l v k n no_cycle_words (Some s)))
+abbrev pub ShowsOrdered : Layout → DrawnRange → Drawn → ℕ → Summary → List Event → List ℕ → Type 0
+ShowsOrdered l v d n s es text =
+    ((ns : List Edge) × ReportsCycle es ns × (text ≡ ringed_ending l v d n s ns))
+    ⊎ ((¬ HasCycle es) × (text ≡ ending l v d n no_cycle_words (Some s)))
 
 -- the end of the picture of n legal events with these counts, where the lock order is wanted or not
-abbrev pub IsEnding : Bool → Layout → DrawnRange → Tracked → ℕ → Summary → List Event → List ℕ → Type 0
-IsEnding false l v k n s es text = text ≡ ending l v k n legal_words (Some s)
-IsEnding true l v k n s es text = ShowsOrdered l v k n s es text
+abbrev pub IsEnding : Bool → Layout → DrawnRange → Drawn → ℕ → Summary → List Event → List ℕ → Type 0
+IsEnding false l v d n s es text = text ≡ ending l v d n legal_words (Some s)
+IsEnding true l v d n s es text = ShowsOrdered l v d n s es text
 
 -- the whole picture of a legal trace with these counts
 abbrev pub IsLegalPicture : Layout → DrawnRange → Summary → List Event → List ℕ → Type 0
 IsLegalPicture l v s es text =
-    (end : List ℕ) × IsEnding v.ordered l v (tracked_since (extended [] es)) (length es) s es end × (text ≡ prefix_picture l v es ++ end)
+    (end : List ℕ) × IsEnding v.ordered l v (drawn_since l v (extended [] es)) (length es) s es end × (text ≡ prefix_picture l v es ++ end)
 
 -- it is kept what n events nest
 abbrev pub AreNoted : LockGraph → ℕ → Type 0

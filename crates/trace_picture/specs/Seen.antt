@@ -175,10 +175,10 @@ WaitsAreDrawn =
 -- The last lines of a picture show the longest hold of each mutex: by whom, how many events, from which event to which, or that there is none.
 abbrev pub HoldsAreReported : Type 0
 HoldsAreReported =
-    (l : Layout) (v : DrawnRange) (past : List Event) (n high : ℕ) (words : List ℕ) (m : ℕ) → m < l.mutexes
+    (l : Layout) (v : DrawnRange) (past : List Event) (shown : ℕ → Option Origin) (n high : ℕ) (words : List ℕ) (m : ℕ) → m < l.mutexes
     → MatchOption (longest_in (tracked_since past) n m)
-    (HasText (end_text l v (tracked_since past) n high words) ((with_number (codes "'><title>m") m ++ codes "</title>") ++ codes "never held"))
-    (λ h. HasText (end_text l v (tracked_since past) n high words) ((with_number (codes "'><title>m") m ++ codes "</title>")
+    (HasText (end_text l v (record { board = tracked_since past; shown = shown }) n high words) ((with_number (codes "'><title>m") m ++ codes "</title>") ++ codes "never held"))
+    (λ h. HasText (end_text l v (record { board = tracked_since past; shown = shown }) n high words) ((with_number (codes "'><title>m") m ++ codes "</title>")
     ++ (with_number (codes "longest: t") h.since.thread.0 ++ with_number (codes ", events: ") (h.last - h.since.place)
     ++ with_number (codes ", ") h.since.place
     ++ (if h.ended then with_number (codes " to ") h.last else codes " on"))))

@@ -8,16 +8,16 @@ ghost use Rattle.larch_actions.specs.Layout.{IsLawful};
 ghost use Rattle.larch_actions.specs.Actions.{Spec, Acts};
 ghost use Rattle.lock_order.specs.declared.answer.Edge.{Edge};
 ghost use Rattle.lock_order.specs.Kept.{HasPlace, IsKept};
-ghost use Rattle.trace_board.specs.Tracked.{tracked_of};
+ghost use Rattle.trace_picture.specs.Shown.{drawn_of};
 ghost use Rattle.trace_shapes.specs.Places.{band_of};
 ghost use Rattle.trace_picture.specs.Rings.{ring_y, ring_text, ring_if, rings_text, ringed_ending, ShowsOrdered, IsEnding, AreNoted, Sends};
 
 use crate::bands::{number_of, top_of};
 use crate::endings::{add_last_closing, add_ringed_end, end_with};
+use crate::shown::Drawing;
 use firefly_outside::{Sink, SinkFault, put_all};
 use larch_actions::{Event, Layout};
 use lock_order::{Cycle, Edge, LockGraph, cycle_in};
-use trace_board::board::TraceState;
 use trace_check::Summary;
 use trace_core::add;
 use trace_shapes::shapes::{event_x, mark_y};
@@ -103,7 +103,7 @@ fn add_ringed_ending(
     at: usize,
     layout: &Layout,
     view: &DrawnRange,
-    board: &TraceState,
+    drawing: &Drawing,
     cycle: &Cycle,
     count: u64,
     left: Summary,
@@ -112,12 +112,12 @@ fn add_ringed_ending(
     requires few { count < 2 ^ 42 }
     requires places { AllByRecursion (λ (n : Edge). n.place < 2 ^ 42) cycle.now }
     requires room { at + 440000 ≤ length buf.old }
-    ensures text { take result buf.new ≡ take at buf.old ++ ringed_ending layout.now view.now (tracked_of board.now) count left cycle.now }
+    ensures text { take result buf.new ≡ take at buf.old ++ ringed_ending layout.now view.now (drawn_of drawing.now) count left cycle.now }
     ensures near { result ≤ at + 440000 }
 {
-    let at = add_last_closing(buf, at, layout, view, board, count);
+    let at = add_last_closing(buf, at, layout, view, &drawing.board, count);
     let at = add_rings(buf, at, layout, view, cycle);
-    add_ringed_end(buf, at, layout, view, board, count, left, cycle)
+    add_ringed_end(buf, at, layout, view, drawing, count, left, cycle)
 }
 
 // Sends what the buffer holds, and the end of a picture in which a cycle is ringed.
@@ -126,7 +126,7 @@ fn end_ringed<O: Sink>(
     at: usize,
     layout: &Layout,
     view: &DrawnRange,
-    board: &TraceState,
+    drawing: &Drawing,
     cycle: &Cycle,
     count: u64,
     left: Summary,
@@ -137,12 +137,12 @@ fn end_ringed<O: Sink>(
     requires places { AllByRecursion (λ (n : Edge). n.place < 2 ^ 42) cycle.now }
     requires room { at + 440000 ≤ length buf.old }
     ensures ok { OnOk result (Appends (O.held out.old) (O.held out.new)
-        (take at buf.old ++ ringed_ending layout.now view.now (tracked_of board.now) count left cycle.now)) }
+        (take at buf.old ++ ringed_ending layout.now view.now (drawn_of drawing.now) count left cycle.now)) }
     ensures err { OnErr result (AppendsPrefix (O.held out.old) (O.held out.new)
-        (take at buf.old ++ ringed_ending layout.now view.now (tracked_of board.now) count left cycle.now)) }
+        (take at buf.old ++ ringed_ending layout.now view.now (drawn_of drawing.now) count left cycle.now)) }
     ensures cause { HasCause (O.faults out.old) (O.faults out.new) result }
 {
-    let end = add_ringed_ending(buf, at, layout, view, board, cycle, count, left);
+    let end = add_ringed_ending(buf, at, layout, view, drawing, cycle, count, left);
     put_all(out, &buf[..end])
 }
 
@@ -152,7 +152,7 @@ fn end_ordered<O: Sink>(
     at: usize,
     layout: &Layout,
     view: &DrawnRange,
-    board: &TraceState,
+    drawing: &Drawing,
     graph: &LockGraph,
     count: u64,
     left: Summary,
@@ -163,18 +163,18 @@ fn end_ordered<O: Sink>(
     requires noted { AreNoted graph.now count }
     requires room { at + 440000 ≤ length buf.old }
     ensures ended { (es : List Event) (now : Spec) → IsKept es now graph.now
-        → (end : List ℕ) × ShowsOrdered layout.now view.now (tracked_of board.now) count left es end
+        → (end : List ℕ) × ShowsOrdered layout.now view.now (drawn_of drawing.now) count left es end
         × Sends result (O.held out.old) (O.held out.new) (take at buf.old ++ end) }
     ensures cause { HasCause (O.faults out.old) (O.faults out.new) result }
 {
     match cycle_in(graph) {
-        Some(cycle) => end_ringed(buf, at, layout, view, board, &cycle, count, left, out),
+        Some(cycle) => end_ringed(buf, at, layout, view, drawing, &cycle, count, left, out),
         None => end_with(
             buf,
             at,
             layout,
             view,
-            board,
+            drawing,
             count,
             b"<text class='hd' x='44' y='18'><tspan class='ok'>legal</tspan>, no lock-order cycle, events: ",
             Some(left),
@@ -189,7 +189,7 @@ pub fn end_legal<O: Sink>(
     at: usize,
     layout: &Layout,
     view: &DrawnRange,
-    board: &TraceState,
+    drawing: &Drawing,
     graph: &LockGraph,
     count: u64,
     left: Summary,
@@ -200,19 +200,19 @@ pub fn end_legal<O: Sink>(
     requires noted { view.now.ordered ≡ true → AreNoted graph.now count }
     requires room { at + 440000 ≤ length buf.old }
     ensures ended { (es : List Event) (now : Spec) → (view.now.ordered ≡ true → IsKept es now graph.now)
-        → (end : List ℕ) × IsEnding view.now.ordered layout.now view.now (tracked_of board.now) count left es end
+        → (end : List ℕ) × IsEnding view.now.ordered layout.now view.now (drawn_of drawing.now) count left es end
         × Sends result (O.held out.old) (O.held out.new) (take at buf.old ++ end) }
     ensures cause { HasCause (O.faults out.old) (O.faults out.new) result }
 {
     if view.ordered {
-        end_ordered(buf, at, layout, view, board, graph, count, left, out)
+        end_ordered(buf, at, layout, view, drawing, graph, count, left, out)
     } else {
         end_with(
             buf,
             at,
             layout,
             view,
-            board,
+            drawing,
             count,
             b"<text class='hd' x='44' y='18'><tspan class='ok'>legal</tspan>, events: ",
             Some(left),
