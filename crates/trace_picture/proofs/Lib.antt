@@ -1,5 +1,6 @@
 pub mod Births
 pub mod Drawing
+pub mod Explained
 pub mod Parts
 pub mod Signals
 pub mod Lines

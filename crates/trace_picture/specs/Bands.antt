@@ -166,7 +166,7 @@ unfoldable pub arrows_at : Band → Tracked → Origin → Effects → List ℕ
 arrows_at b k o m = arrow_by b k o m.wait m.waker ++ wakes_by b o k.stands m.stand ++ fork_by b o m.life
 
 -- the event n: the row that it begins or ends, its mark and the number of its object, and the bars that it ends
-unfoldable pub event_marks : Band → Tracked → ℕ → Event → List ℕ
+abbrev pub event_marks : Band → Tracked → ℕ → Event → List ℕ
 event_marks b k n e =
     number_text b n ++ life_row b n (marks e).life ++ mark_text b n e ++ object_if b n e ++ bars_ended (up_to b n) k (marks e)
 

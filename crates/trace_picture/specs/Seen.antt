@@ -1,5 +1,5 @@
 -- What the marks and the bars that are drawn say.
-use Rattle.std.specs.Prelude.{◌≡◌, ◌≢◌, ℕ, ◌+◌, ◌-◌, ◌*◌, ◌%◌, ◌<◌, ◌≤◌, true, false, if◌then◌else◌, List, [], ◌∷◌, ◌++◌, length, codes, Some, MatchOption}
+use Rattle.std.specs.Prelude.{◌≡◌, ◌≢◌, ℕ, ◌+◌, ◌-◌, ◌*◌, ◌%◌, ◌<◌, ◌≤◌, true, false, if◌then◌else◌, List, [], ◌∷◌, ◌++◌, length, codes, is_some, Some, MatchOption}
 use Rattle.larch_actions.specs.declared.event.Layout.{Layout}
 use Rattle.larch_actions.specs.declared.event.Version.TheVariants.{Two}
 use Rattle.larch_actions.specs.declared.event.ThreadId.{ThreadId}
@@ -12,7 +12,10 @@ use Rattle.trace_board.specs.declared.history.Change.TheVariants.{Ends}
 use Rattle.trace_board.specs.declared.rows.Bar.{Bar}
 use Rattle.trace_board.specs.declared.rows.Bar.TheVariants.{Mutex, Semaphore}
 use Rattle.trace_shapes.specs.declared.view.DrawnRange.{DrawnRange}
+use Rattle.trace_board.specs.declared.marks.Mark.{Mark}
 use Rattle.trace_shapes.specs.Looks.{look_of}
+use Rattle.trace_shapes.specs.declared.legend.Entry.TheVariants.{OfMark}
+use Rattle.trace_shapes.specs.Legend.{entry_text, legend_text}
 use Rattle.trace_board.specs.Marks.{marks, marks_of}
 use Rattle.trace_board.specs.History.{origin_of}
 use Rattle.trace_board.specs.Tracked.{Tracked, tracked_since, extended, longest_in, forked_by, let_on_by}
@@ -23,6 +26,7 @@ use Rattle.trace_shapes.specs.Shapes.{each_below, place_text, box_text, row_text
 use Rattle.trace_shapes.specs.declared.view.Shape.TheVariants.{Joined}
 use Rattle.trace_shapes.specs.Arrows.{link, arrow_text, wake_text, fork_text}
 use Rattle.trace_picture.specs.Bands.{up_to, opening, step_text}
+use Rattle.trace_picture.specs.Shown.{shown_since}
 use Rattle.trace_picture.specs.Picture.{end_text}
 use Rattle.trace_board.specs.Laws.{IsSince, IsMadeBy, HasEvent, is_live, is_ended, awaited_by}
 
@@ -59,6 +63,18 @@ pub record HasText (whole part : List ℕ) : Type 0 where
   pub before : List ℕ
   pub after : List ℕ
   pub text : whole ≡ before ++ part ++ after
+
+-- The mark of each event in view has its entry in the legend, however the trace goes on.
+abbrev pub MarksAreExplained : Type 0
+MarksAreExplained =
+    (l : Layout) (v : DrawnRange) (past : List Event) (e : Event) (es : List Event) → in_view v (length past) ≡ true
+    → (before : ℕ) × HasText (legend_text (shown_since l v (extended (e ∷ past) es))) (entry_text before (OfMark (marks e).mark))
+
+-- A mark that the legend explains is that of an event in view.
+abbrev pub DrawnAreExplained : Type 0
+DrawnAreExplained =
+    (l : Layout) (v : DrawnRange) (past : List Event) (m : Mark) → is_some (shown_since l v past (look_of m).letter) ≡ true
+    → (after before : List Event) × (e : Event) × (past ≡ after ++ e ∷ before) × (in_view v (length before) ≡ true) × ((marks e).mark ≡ m)
 
 -- the left edge of the column of the event n, and the upper edge of the row of the thread t
 abbrev pub left_of : DrawnRange → ℕ → ℕ

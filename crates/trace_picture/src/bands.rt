@@ -411,7 +411,6 @@ fn add_bars_ended(
 }
 
 // Adds the number of an event, the row that it begins or ends, its mark and the number of its object, and the bars that it ends.
-#[tactic(auto, unfolding(crate::specs::Bands::event_marks))]
 fn add_event_marks(
     buf: &mut [u8],
     at: usize,

@@ -1,0 +1,107 @@
+-- The legend explains the marks of the events that are drawn, and no others.
+use Rattle.std.proofs.Common.{◌≡◌, ℕ, suc, ◌<◌, Bool, true, false, cond, eqb, List, [], ◌∷◌, ◌++◌, length, refl, ap, sym, subst, ◌∙◌, ⊎_elim, inl, inr, ◌⊎◌, eq-eqb, Some, None, arith}
+use Rattle.std.specs.Prelude.{codes, is_some, slice_index_or, ◌==◌}
+use Rattle.std.specs.declared.option.Option.{Option}
+use Rattle.std.proofs.lemmas.Bool.{cond-true, eqb-true, true≢false}
+use Rattle.larch_actions.specs.declared.event.Layout.{Layout}
+use Rattle.larch_actions.specs.declared.event.Event.{Event}
+use Rattle.larch_actions.specs.Actions.{put}
+use Rattle.trace_board.specs.declared.history.Origin.{Origin}
+use Rattle.trace_board.specs.declared.marks.Mark.{Mark}
+use Rattle.trace_board.specs.declared.marks.Mark.TheVariants.{Acquire, Release, Enqueue, Resume, Signal, Broadcast, P, V, Alert, TestAlert, AlertEnqueue, AlertReturn, AlertRaise, AlertPReturn, AlertPRaise, Fork, End, Join, Failed}
+use Rattle.trace_board.specs.declared.marks.Effects.{Effects}
+use Rattle.trace_board.specs.History.{origin_of}
+use Rattle.trace_board.specs.Marks.{marks}
+use Rattle.trace_board.specs.Tracked.{Tracked, tracked_since, extended}
+use Rattle.trace_shapes.specs.declared.view.DrawnRange.{DrawnRange}
+use Rattle.trace_shapes.specs.declared.legend.Entry.TheVariants.{OfMark}
+use Rattle.trace_shapes.specs.declared.legend.TheConstants.{ARROWS, TAKINGS, HOLDS, WAITS, LET_GO}
+use Rattle.trace_shapes.specs.Looks.{look_of}
+use Rattle.trace_shapes.specs.Legend.{name_of, entry_at, entry_text, entry_if, is_shown, shown_before, legend_text}
+use Rattle.trace_shapes.specs.Places.{in_view, column, band_of}
+use Rattle.trace_picture.specs.Bands.{arrows_at}
+use Rattle.trace_picture.specs.Shown.{shown_if, going_on, opened, shown_by, has_text, shown_after, shown_since}
+use Rattle.trace_picture.specs.Seen.{HasText, MarksAreExplained, DrawnAreExplained}
+use Rattle.trace_picture.proofs.Parts.{each_has}
+
+-- what is shown once stays so
+stays_if : (name : ℕ) (so : Bool) (o : Origin) (f : ℕ → Option Origin) (x : ℕ) → is_some (f x) ≡ true → is_some (shown_if name so o f x) ≡ true
+stays_if name false o f x h = h
+stays_if name true o f x h = at (eqb x name)
+  where
+    at : (b : Bool) → is_some (cond b (Some o) (f x)) ≡ true
+    at true = refl
+    at false = h
+
+stays_opened : (l : Layout) (v : DrawnRange) (k : Tracked) (o : Origin) (f : ℕ → Option Origin) (x : ℕ) → is_some (f x) ≡ true → is_some (opened l v k o f x) ≡ true
+stays_opened l v k o f x h = at (column v o.place == 0)
+  where
+    at : (b : Bool) → is_some ((cond b (going_on l k o f) f) x) ≡ true
+    at true = stays_if _ _ o _ x (stays_if _ _ o _ x (stays_if _ _ o _ x (stays_if _ _ o f x h)))
+    at false = h
+
+stays_by : (o : Origin) (m : Effects) (arrows : Bool) (f : ℕ → Option Origin) (x : ℕ) → is_some (shown_if (look_of m.mark).letter true o f x) ≡ true → is_some (shown_by o m arrows f x) ≡ true
+stays_by o m arrows f x h = stays_if _ _ o _ x (stays_if _ _ o _ x (stays_if _ _ o _ x (stays_if _ _ o _ x (stays_if _ _ o _ x h))))
+
+module _ (l : Layout) (v : DrawnRange) where
+  stays_after : (past : List Event) (e : Event) (x : ℕ) → is_some (shown_since l v past x) ≡ true → is_some (shown_since l v (e ∷ past) x) ≡ true
+  stays_after past e x h = at (in_view v (length past))
+    where
+      k = tracked_since past
+      n = length past
+      f = opened l v k (origin_of n e) (shown_since l v past)
+      at : (b : Bool) → is_some ((cond b (shown_by (origin_of n e) (marks e) (has_text (arrows_at (band_of l v n) k (origin_of n e) (marks e))) f) (shown_since l v past)) x) ≡ true
+      at true = stays_by (origin_of n e) (marks e) _ f x (stays_if _ true (origin_of n e) f x (stays_opened l v k (origin_of n e) (shown_since l v past) x h))
+      at false = h
+
+  stays : (es past : List Event) (x : ℕ) → is_some (shown_since l v past x) ≡ true → is_some (shown_since l v (extended past es) x) ≡ true
+  stays [] past x h = h
+  stays (e ∷ es) past x h = stays es (e ∷ past) x (stays_after past e x h)
+
+  -- an event in view shows its mark
+  shows : (past : List Event) (e : Event) → in_view v (length past) ≡ true → is_some (shown_since l v (e ∷ past) (look_of (marks e).mark).letter) ≡ true
+  shows past e seen =
+      let n = length past in
+      let o = origin_of n e in
+      let k = tracked_since past in
+      let f = opened l v k o (shown_since l v past) in
+      let x = (look_of (marks e).mark).letter in
+      let arrows = has_text (arrows_at (band_of l v n) k o (marks e)) in
+      let own : is_some (shown_if x true o f x) ≡ true = ap (λ b. is_some (cond b (Some o) (f x))) (eq-eqb x x refl) in
+      ap (λ (g : ℕ → Option Origin). is_some (g x)) (cond-true (in_view v n) (shown_by o (marks e) arrows f) (shown_since l v past) seen) ∙ stays_by o (marks e) arrows f x own
+
+-- the place of a mark's entry
+place_of : (m : Mark) → (n : ℕ) × (n < 24) × (entry_at n ≡ OfMark m)
+place_of Acquire = (0, omega arith, refl)
+place_of Release = (1, omega arith, refl)
+place_of Enqueue = (2, omega arith, refl)
+place_of Resume = (3, omega arith, refl)
+place_of Signal = (4, omega arith, refl)
+place_of Broadcast = (5, omega arith, refl)
+place_of P = (6, omega arith, refl)
+place_of V = (7, omega arith, refl)
+place_of Alert = (8, omega arith, refl)
+place_of TestAlert = (9, omega arith, refl)
+place_of AlertEnqueue = (10, omega arith, refl)
+place_of AlertReturn = (11, omega arith, refl)
+place_of AlertRaise = (12, omega arith, refl)
+place_of AlertPReturn = (13, omega arith, refl)
+place_of AlertPRaise = (14, omega arith, refl)
+place_of Fork = (15, omega arith, refl)
+place_of End = (16, omega arith, refl)
+place_of Join = (17, omega arith, refl)
+place_of Failed = (18, omega arith, refl)
+
+pub marks_are_explained : MarksAreExplained
+unfolding legend_text
+marks_are_explained = λ l v past e es seen.
+    let m = (marks e).mark in
+    let shown = shown_since l v (extended (e ∷ past) es) in
+    let p = place_of m in
+    let n = p.0 in
+    let there : is_some (shown (look_of m).letter) ≡ true = stays l v es (e ∷ past) (look_of m).letter (shows l v past e seen) in
+    let is : is_shown shown n ≡ true = subst (λ x. is_some (shown (name_of x)) ≡ true) (sym p.2) there in
+    let text : entry_if shown n ≡ entry_text (shown_before shown n) (OfMark m) =
+    cond-true (is_shown shown n) (entry_text (shown_before shown n) (entry_at n)) [] is ∙ ap (entry_text (shown_before shown n)) p.2
+    in
+    (shown_before shown n, subst (HasText (legend_text shown)) text (each_has (entry_if shown) 24 n p.1))
