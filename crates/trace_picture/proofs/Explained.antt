@@ -23,6 +23,7 @@ use Rattle.trace_picture.specs.Bands.{arrows_at}
 use Rattle.trace_picture.specs.Shown.{shown_if, going_on, opened, shown_by, has_text, shown_after, shown_since}
 use Rattle.trace_picture.specs.Seen.{HasText, MarksAreExplained, DrawnAreExplained}
 use Rattle.trace_picture.proofs.Parts.{each_has}
+use Rattle.trace_picture.proofs.Seeing.{index_of}
 
 -- what is shown once stays so
 stays_if : (name : ℕ) (so : Bool) (o : Origin) (f : ℕ → Option Origin) (x : ℕ) → is_some (f x) ≡ true → is_some (shown_if name so o f x) ≡ true
@@ -105,3 +106,122 @@ marks_are_explained = λ l v past e es seen.
     cond-true (is_shown shown n) (entry_text (shown_before shown n) (entry_at n)) [] is ∙ ap (entry_text (shown_before shown n)) p.2
     in
     (shown_before shown n, subst (HasText (legend_text shown)) text (each_has (entry_if shown) 24 n p.1))
+
+-- a mark is known by its letter, which is the name of nothing else
+abbrev letters : List ℕ
+letters = codes "ARWCSBPVLTwcxpyfEJF"
+
+abbrev number : Mark → ℕ
+number m = index_of (look_of m).letter letters
+
+abbrev all_marks : List Mark
+all_marks =
+    Acquire ∷ Release ∷ Enqueue ∷ Resume ∷ Signal ∷ Broadcast ∷ P ∷ V ∷ Alert ∷ TestAlert ∷ AlertEnqueue ∷ AlertReturn ∷ AlertRaise ∷ AlertPReturn
+    ∷ AlertPRaise ∷ Fork ∷ End ∷ Join ∷ Failed ∷ []
+
+numbered : (m : Mark) → (number m < 19) × (slice_index_or all_marks (number m) Failed ≡ m)
+unfolding index_of
+numbered Acquire = (omega arith, refl)
+numbered Release = (omega arith, refl)
+numbered Enqueue = (omega arith, refl)
+numbered Resume = (omega arith, refl)
+numbered Signal = (omega arith, refl)
+numbered Broadcast = (omega arith, refl)
+numbered P = (omega arith, refl)
+numbered V = (omega arith, refl)
+numbered Alert = (omega arith, refl)
+numbered TestAlert = (omega arith, refl)
+numbered AlertEnqueue = (omega arith, refl)
+numbered AlertReturn = (omega arith, refl)
+numbered AlertRaise = (omega arith, refl)
+numbered AlertPReturn = (omega arith, refl)
+numbered AlertPRaise = (omega arith, refl)
+numbered Fork = (omega arith, refl)
+numbered End = (omega arith, refl)
+numbered Join = (omega arith, refl)
+numbered Failed = (omega arith, refl)
+
+same_mark : (m k : Mark) → (look_of m).letter ≡ (look_of k).letter → m ≡ k
+same_mark m k e = sym (numbered m).1 ∙ ap (λ x. slice_index_or all_marks (index_of x letters) Failed) e ∙ (numbered k).1
+
+no_mark : (m : Mark) (name : ℕ) → index_of name letters ≡ 19 → (look_of m).letter ≡ name → ⊥
+no_mark m name out e = absurd (omega (arith, (numbered m).0, ap (λ x. index_of x letters) e, out))
+
+is_no_mark : (name : ℕ) → index_of name letters ≡ 19 → (m : Mark) (so : Bool) (o : Origin) (f : ℕ → Option Origin)
+    → is_some (shown_if name so o f (look_of m).letter) ≡ true → is_some (f (look_of m).letter) ≡ true
+is_no_mark name out m false o f h = h
+is_no_mark name out m true o f h = at (eqb (look_of m).letter name) refl h
+  where
+    at : (b : Bool) → eqb (look_of m).letter name ≡ b → is_some (cond b (Some o) (f (look_of m).letter)) ≡ true → is_some (f (look_of m).letter) ≡ true
+    at true same h = absurd (no_mark m name out (eqb-true (look_of m).letter name same))
+    at false other h = h
+
+no_arrows : index_of ARROWS letters ≡ 19
+unfolding index_of
+no_arrows = refl
+
+no_takings : index_of TAKINGS letters ≡ 19
+unfolding index_of
+no_takings = refl
+
+no_holds : index_of HOLDS letters ≡ 19
+unfolding index_of
+no_holds = refl
+
+no_waits : index_of WAITS letters ≡ 19
+unfolding index_of
+no_waits = refl
+
+no_let_go : index_of LET_GO letters ≡ 19
+unfolding index_of
+no_let_go = refl
+
+-- what goes on into a band is no mark
+before_opened : (l : Layout) (v : DrawnRange) (k : Tracked) (o : Origin) (f : ℕ → Option Origin) (m : Mark)
+    → is_some (opened l v k o f (look_of m).letter) ≡ true → is_some (f (look_of m).letter) ≡ true
+before_opened l v k o f m h = at (column v o.place == 0) h
+  where
+    at : (b : Bool) → is_some ((cond b (going_on l k o f) f) (look_of m).letter) ≡ true → is_some (f (look_of m).letter) ≡ true
+    at true h =
+        is_no_mark HOLDS no_holds m _ o f
+        (is_no_mark TAKINGS no_takings m _ o _ (is_no_mark WAITS no_waits m _ o _ (is_no_mark LET_GO no_let_go m _ o _ h)))
+    at false h = h
+
+-- an event shows its own mark alone
+before_by : (o : Origin) (e : Effects) (arrows : Bool) (f : ℕ → Option Origin) (m : Mark) → is_some (shown_by o e arrows f (look_of m).letter) ≡ true
+    → (e.mark ≡ m) ⊎ (is_some (f (look_of m).letter) ≡ true)
+before_by o e arrows f m h =
+    own (eqb (look_of m).letter (look_of e.mark).letter) refl
+    (is_no_mark HOLDS no_holds m _ o _
+    (is_no_mark TAKINGS no_takings m _ o _
+    (is_no_mark WAITS no_waits m _ o _ (is_no_mark ARROWS no_arrows m _ o _ (is_no_mark LET_GO no_let_go m _ o _ h)))))
+  where
+    own : (b : Bool) → eqb (look_of m).letter (look_of e.mark).letter ≡ b → is_some (cond b (Some o) (f (look_of m).letter)) ≡ true
+        → (e.mark ≡ m) ⊎ (is_some (f (look_of m).letter) ≡ true)
+    own true same h = inl (sym (same_mark m e.mark (eqb-true (look_of m).letter (look_of e.mark).letter same)))
+    own false other h = inr h
+
+module _ (l : Layout) (v : DrawnRange) (m : Mark) where
+  abbrev WasDrawn : List Event → Type 0
+  WasDrawn past = (after before : List Event) × (e : Event) × (past ≡ after ++ e ∷ before) × (in_view v (length before) ≡ true) × ((marks e).mark ≡ m)
+
+  later : (e : Event) (past : List Event) → WasDrawn past → WasDrawn (e ∷ past)
+  later e past d = (e ∷ d.0, d.1, d.2, ap (λ x. e ∷ x) d.3, d.4, d.5)
+
+  was_drawn : (past : List Event) → is_some (shown_since l v past (look_of m).letter) ≡ true → WasDrawn past
+  was_drawn [] h = absurd (true≢false (sym h))
+  was_drawn (e ∷ past) h = at (in_view v (length past)) refl h
+    where
+      k = tracked_since past
+      o = origin_of (length past) e
+      f = opened l v k o (shown_since l v past)
+      at : (b : Bool) → in_view v (length past) ≡ b → is_some ((cond b (shown_by o (marks e) (has_text (arrows_at (band_of l v (length past)) k o (marks e))) f) (shown_since l v past)) (look_of m).letter) ≡ true
+          → WasDrawn (e ∷ past)
+      at true seen h =
+          ⊎_elim (λ (is : (marks e).mark ≡ m). ([], past, e, refl, seen, is))
+          (λ (was : is_some (f (look_of m).letter) ≡ true). later e past (was_drawn past (before_opened l v k o (shown_since l v past) m was)))
+          (before_by o (marks e) _ f m h)
+      at false out h = later e past (was_drawn past h)
+
+pub drawn_are_explained : DrawnAreExplained
+drawn_are_explained = λ l v past m h. was_drawn l v m past h
