@@ -1,7 +1,7 @@
 //! The marks of events, and the legend that says what each means.
 //!
 //! A further mark is a row in each function here and in specs/Looks.antt.
-ghost use Rattle.std.specs.Prelude.{◌≡◌, ◌+◌, ◌*◌, ◌<◌, ◌≤◌, ◌∷◌, [], ◌++◌, length, take, codes};
+ghost use Rattle.std.specs.Prelude.{◌≡◌, ◌+◌, ◌*◌, ◌<◌, ◌≤◌, ◌^◌, ◌∷◌, [], ◌++◌, length, take, codes};
 ghost use Rattle.trace_board.specs.History.{entry_of};
 ghost use Rattle.trace_shapes.specs.Shapes.{each_below};
 ghost use Rattle.trace_shapes.specs.Looks.{look, look_of, has_number, letter_x, words_of};
