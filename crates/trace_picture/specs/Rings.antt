@@ -1,4 +1,4 @@
--- The rings around the events of a cycle of the lock order, and how the picture of a legal trace ends.
+-- The rings that mark the events of a cycle of the lock order, and how the picture of a legal trace ends.
 use Rattle.std.specs.Prelude.{◌≡◌, ◌⊎◌, ℕ, ◌+◌, if◌then◌else◌, Bool, true, false, List, [], ◌++◌, length, codes, Some, Result, OnOk, OnErr}
 use Rattle.std.specs.List.{flat_map}
 use Rattle.std.specs.Io.KnownBytes.{Appends}
@@ -14,32 +14,18 @@ use Rattle.lock_order.specs.Order.{HasCycle, ReportsCycle}
 use Rattle.lock_order.specs.Kept.{IsKept}
 use Rattle.trace_shapes.specs.declared.view.DrawnRange.{DrawnRange}
 use Rattle.trace_board.specs.Tracked.{extended}
-use Rattle.trace_shapes.specs.Places.{in_view, band_of, event_x, mark_y, band_top}
 use Rattle.trace_shapes.specs.Shapes.{with_number}
-use Rattle.trace_picture.specs.Bands.{band_number}
 use Rattle.trace_picture.specs.Shown.{Drawn, drawn_since}
 use Rattle.trace_picture.specs.Verdicts.{legal_words, counted_line}
 use Rattle.trace_picture.specs.declared.verdicts.TheConstants.{TWO_LINES}
 use Rattle.trace_picture.specs.Picture.{closing_if, end_text, ending, prefix_picture}
 
--- the upper edge of the mark of the event by which the inner mutex was got while the outer one was held
-abbrev pub ring_y : Layout → DrawnRange → Edge → ℕ
-ring_y l v n = band_top l (band_number v (band_of l v n.place)) + mark_y (band_of l v n.place) n.thread.0
+-- the edge of the mark of the event by which the inner mutex was got while the outer one was held
+unfoldable pub ring_text : Edge → List ℕ
+ring_text n = with_number (codes "<style>#e") n.place ++ codes "{stroke:#cf222e;stroke-width:3}</style>\n"
 
--- an edge of this mark, with the two mutexes as its title
-unfoldable pub ring_text : Layout → DrawnRange → Edge → List ℕ
-ring_text l v n =
-    with_number (codes "<rect class='c' id='e") n.place
-    ++ with_number (codes "' width='22' height='15' rx='3' x='") (event_x (band_of l v n.place) n.place)
-    ++ with_number (codes "' y='") (ring_y l v n) ++ with_number (codes "'><title>m") n.outer.0
-    ++ with_number (codes " then m") n.inner.0 ++ codes "</title></rect>\n"
-
--- the ring, where the event is drawn
-abbrev pub ring_if : Layout → DrawnRange → Edge → List ℕ
-ring_if l v n = if in_view v n.place then ring_text l v n else []
-
-abbrev pub rings_text : Layout → DrawnRange → List Edge → List ℕ
-rings_text l v ns = flat_map (ring_if l v) ns
+abbrev pub rings_text : List Edge → List ℕ
+rings_text ns = flat_map ring_text ns
 
 abbrev pub ringed_words : List ℕ
 ringed_words = codes "<text class='hd' x='44' y='18'><tspan class='ok'>legal</tspan>, a lock-order cycle is ringed, events: "
@@ -62,7 +48,7 @@ ringed_line v n s ns = counted_line v n ringed_words (Some s) ++ cycle_text ns
 
 -- the end of the picture of n events, with rings around the events of this cycle
 abbrev pub ringed_ending : Layout → DrawnRange → Drawn → ℕ → Summary → List Edge → List ℕ
-ringed_ending l v d n s ns = closing_if l v d.board n ++ rings_text l v ns ++ end_text l v d n TWO_LINES (ringed_line v n s ns)
+ringed_ending l v d n s ns = closing_if l v d.board n ++ rings_text ns ++ end_text l v d n TWO_LINES (ringed_line v n s ns)
 
 -- A cycle of the events is ringed, or they have none and this is said.
 abbrev pub ShowsOrdered : Layout → DrawnRange → Drawn → ℕ → Summary → List Event → List ℕ → Type 0

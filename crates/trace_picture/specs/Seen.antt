@@ -8,6 +8,8 @@ use Rattle.larch_actions.specs.declared.event.Action.{Action}
 use Rattle.larch_actions.specs.declared.event.Action.TheVariants.{Acquire, Release, Enqueue, Resume, AlertEnqueue, AlertReturn, AlertRaise, Signal, Broadcast, P, V, Alert, TestAlert, AlertPReturn, AlertPRaise, Fork, End, Join}
 use Rattle.larch_actions.specs.Actions.{Spec, acted, IsRun, MayAct}
 use Rattle.trace_board.specs.declared.history.Origin.{Origin}
+use Rattle.lock_order.specs.declared.answer.Edge.{Edge}
+use Rattle.lock_order.specs.Order.{Nests}
 use Rattle.trace_board.specs.declared.history.Change.TheVariants.{Ends}
 use Rattle.trace_board.specs.declared.rows.Bar.{Bar}
 use Rattle.trace_board.specs.declared.rows.Bar.TheVariants.{Mutex, Semaphore}
@@ -22,7 +24,7 @@ use Rattle.trace_board.specs.Tracked.{Tracked, tracked_since, extended, longest_
 use Rattle.trace_shapes.specs.declared.view.Band.{Band}
 use Rattle.trace_shapes.specs.declared.geometry.TheConstants.{BAND, COLUMN, LEFT, AXIS, MARK_TOP, LANE_TOP, LANE, BAR_GAP, ROW_RIGHT}
 use Rattle.trace_shapes.specs.Places.{in_view, column, band_of, lanes_of, row_step, row_height, bar_x, bar_width}
-use Rattle.trace_shapes.specs.Shapes.{each_below, place_text, box_text, row_text, parts_text, with_number}
+use Rattle.trace_shapes.specs.Shapes.{each_below, place_text, box_text, row_text, parts_text, with_number, line_of}
 use Rattle.trace_shapes.specs.declared.view.Shape.TheVariants.{Joined}
 use Rattle.trace_shapes.specs.Arrows.{link, arrow_text, wake_text, fork_text}
 use Rattle.trace_picture.specs.Bands.{up_to, opening, step_text}
@@ -89,6 +91,13 @@ EventsAreMarked =
     (l : Layout) (v : DrawnRange) (k : Tracked) (n : ℕ) (e : Event) → in_view v n ≡ true
     → HasText (step_text l v k n e) ((codes "<use href='#" ++ (look_of (marks e).mark).letter ∷ [])
     ++ place_text (left_of v n) (upper_of l e.thread.0 + MARK_TOP))
+
+-- Where the lock order is wanted, the mark of each event in view by which a mutex is got in another is called by its place, as the rings call the marks of a cycle.
+abbrev pub RingsAreNamed : Type 0
+RingsAreNamed =
+    (l : Layout) (v : DrawnRange) (k : Tracked) (es : List Event) (n : Edge) → v.ordered ≡ true
+    → (f : Nests es n.outer.0 n.inner.0 n.thread.0 n.place) → in_view v n.place ≡ true
+    → HasText (step_text l v k n.place f.event) (with_number (codes "' id='e") n.place ++ (codes "'><title>" ++ line_of n.place f.event))
 
 -- The bar that ends with the event at the place n, in the band b of the layout l, as a tag that begins so: it goes from the event that took what the bar
 -- is of, in the row of the thread that did, from the left edge of the column of the taking, or of the band's first, up to the gap before the next.

@@ -7,7 +7,7 @@ use Rattle.larch_actions.specs.Actions.{put}
 use Rattle.larch_actions.specs.State.{count_below}
 use Rattle.trace_board.specs.declared.history.Origin.{Origin}
 use Rattle.trace_board.specs.declared.history.Change.{Change}
-use Rattle.trace_board.specs.declared.history.Change.TheVariants.{Begins, Ends}
+use Rattle.trace_board.specs.declared.history.Change.TheVariants.{Ends}
 use Rattle.trace_board.specs.declared.causes.CauseChange.{CauseChange}
 use Rattle.trace_board.specs.declared.causes.CauseChange.TheVariants.{Frees}
 use Rattle.trace_board.specs.declared.marks.Effects.{Effects}
@@ -18,6 +18,7 @@ use Rattle.trace_board.specs.Tracked.{Tracked, nothing_tracked, tracked_after, t
 use Rattle.trace_shapes.specs.declared.view.DrawnRange.{DrawnRange}
 use Rattle.trace_shapes.specs.declared.legend.TheConstants.{ARROWS, TAKINGS, HOLDS, WAITS, LET_GO}
 use Rattle.trace_shapes.specs.Looks.{look_of}
+use Rattle.trace_shapes.specs.Shapes.{begins}
 use Rattle.trace_shapes.specs.Places.{in_view, column, band_of}
 use Rattle.trace_picture.specs.declared.shown.Drawing.{Drawing}
 use Rattle.trace_picture.specs.Bands.{arrows_at}
@@ -36,10 +37,6 @@ nothing_drawn = record { board = nothing_tracked; shown = λ (k : ℕ). None }
 abbrev pub has_text : List ℕ → Bool
 has_text [] = false
 has_text (x ∷ xs) = true
-
-abbrev pub begins : Change → Bool
-begins (Begins k) = true
-begins _ = false
 
 abbrev pub ends : Change → Bool
 ends (Ends k) = true

@@ -40,7 +40,7 @@ fn height_of_band(layout: &Layout) -> u64
     row_step(lanes_of(layout)) * u64::from(layout.threads) + (AXIS + BAND_GAP)
 }
 
-/// The upper edge of a band.
+/// The upper edge of a band, below the legend.
 pub fn top_of(layout: &Layout, band: u64) -> u64
     requires lawful { IsLawful layout.now }
     requires few { band < 2 ^ 42 }
@@ -50,8 +50,8 @@ pub fn top_of(layout: &Layout, band: u64) -> u64
     band * height_of_band(layout)
 }
 
-/// The number of a band.
-pub fn number_of(view: &DrawnRange, band: &Band) -> u64
+// The number of a band.
+fn number_of(view: &DrawnRange, band: &Band) -> u64
     ensures number { result ≡ band_number view.now band.now }
     ensures small { result ≤ band.now.start }
 {
@@ -419,12 +419,13 @@ fn add_event_marks(
     place: u64,
     e: &Event,
     shown: &Effects,
+    ordered: bool,
 ) -> usize
     requires noted { IsNoted e.now }
     requires same { shown.now ≡ marks e.now }
     requires few { place < 2 ^ 41 }
     requires room { at + 5000 ≤ length buf.old }
-    ensures text { take result buf.new ≡ take at buf.old ++ event_marks band.now (tracked_of board.now) place e.now }
+    ensures text { take result buf.new ≡ take at buf.old ++ event_marks ordered band.now (tracked_of board.now) place e.now }
     ensures near { result ≤ at + 5000 }
 {
     let reach = Reach {
@@ -434,7 +435,7 @@ fn add_event_marks(
     };
     let at = add_label(buf, at, band, place);
     let at = add_life_row(buf, at, band, place, shown.life);
-    let at = add_mark(buf, at, band, place, e, shown);
+    let at = add_mark(buf, at, ordered, band, place, e, shown);
     let at = add_object_if(buf, at, band, place, e, shown);
     add_bars_ended(buf, at, &reach, board, shown)
 }
@@ -455,7 +456,7 @@ fn add_event_shapes(
     requires few { place < 2 ^ 41 }
     requires room { at + 99300 ≤ length buf.old }
     ensures text { take result buf.new ≡ take at buf.old ++
-        event_shapes (band_of layout.now view.now place) (tracked_of drawing.old.board) place e.now }
+        event_shapes view.now.ordered (band_of layout.now view.now place) (tracked_of drawing.old.board) place e.now }
     ensures kept { tracked_of drawing.new.board ≡ tracked_of drawing.old.board }
     ensures shown { entry_of drawing.new.shown ≡ shown_by (origin_of place e.now) (marks e.now)
         (has_text (arrows_at (band_of layout.now view.now place) (tracked_of drawing.old.board) (origin_of place e.now) (marks e.now)))
@@ -469,7 +470,7 @@ fn add_event_shapes(
         object: shown.object,
         place,
     };
-    let marked = add_event_marks(buf, at, &band, &drawing.board, place, e, &shown);
+    let marked = add_event_marks(buf, at, &band, &drawing.board, place, e, &shown, view.ordered);
     let end = add_arrows(buf, marked, &band, &drawing.board, &by, &shown);
     note_opening(&mut drawing.shown, layout, view, &drawing.board, by);
     note_event(&mut drawing.shown, &shown, marked < end, by);
@@ -493,7 +494,7 @@ fn add_drawn(
     requires room { at + 440000 ≤ length buf.old }
     ensures text { take result buf.new ≡ take at buf.old ++
         (opening layout.now view.now (tracked_of drawing.old.board) place
-        ++ event_shapes (band_of layout.now view.now place) (tracked_of drawing.old.board) place e.now
+        ++ event_shapes view.now.ordered (band_of layout.now view.now place) (tracked_of drawing.old.board) place e.now
         ++ closing_after layout.now view.now (tracked_of drawing.new.board) place) }
     ensures kept { drawn_of drawing.new ≡ drawn_after layout.now view.now place e.now (drawn_of drawing.old) }
     ensures near { result ≤ at + 440000 }

@@ -1,11 +1,11 @@
 //! What was drawn so far, for the legend: by the name of each entry, the latest event that showed it.
-ghost use Rattle.std.specs.Prelude.{◌≡◌, ◌<◌, ◌≤◌, true, is_some, length};
+ghost use Rattle.std.specs.Prelude.{◌≡◌, ◌≤◌, is_some};
 ghost use Rattle.larch_actions.specs.Layout.{IsLawful};
 ghost use Rattle.larch_actions.specs.State.{count_below};
 ghost use Rattle.trace_board.specs.History.{entry_of};
 ghost use Rattle.trace_board.specs.Causes.{cause_of};
 ghost use Rattle.trace_board.specs.Tracked.{tracked_of, came};
-ghost use Rattle.trace_picture.specs.Shown.{drawn_of, nothing_drawn, begins, ends, frees, shown_if, going_on, opened, lets_go_on, shown_by, shown_failed};
+ghost use Rattle.trace_picture.specs.Shown.{drawn_of, nothing_drawn, ends, frees, shown_if, going_on, opened, lets_go_on, shown_by, shown_failed};
 
 use larch_actions::Layout;
 use trace_board::board::{Reason, TraceState};
@@ -13,6 +13,7 @@ use trace_board::causes::CauseChange;
 use trace_board::history::{Change, Origin, Table};
 use trace_board::marks::{Effects, Mark};
 use trace_shapes::legend::{ARROWS, HOLDS, LET_GO, TAKINGS, WAITS, look_of};
+use trace_shapes::shapes::begins;
 use trace_shapes::view::{DrawnRange, column_of, is_in_view};
 
 /// What is kept of the events before, and what was drawn.
@@ -33,17 +34,7 @@ impl Drawing {
     }
 }
 
-// Whether it begins, or ends, something.
-fn begins(effect: Change) -> bool
-    ensures { result ≡ begins effect }
-{
-    match effect {
-        Change::Begins(_) => true,
-        Change::Ends(_) => false,
-        Change::Stays => false,
-    }
-}
-
+// Whether it ends something.
 fn ends(effect: Change) -> bool
     ensures { result ≡ ends effect }
 {

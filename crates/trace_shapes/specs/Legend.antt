@@ -48,11 +48,11 @@ letter_text m =
     with_number (codes "' width='22' height='15' rx='3'/><text class='i' y='12' x='") (letter_x m)
     ++ (codes "'>" ++ (look_of m).shown ∷ [])
 
--- a mark as it is drawn
+-- a mark as it is drawn, and one that is drawn so
 unfoldable pub shape_text : Mark → List ℕ
 shape_text m =
-    (codes "<g id='" ++ (look_of m).letter ∷ []) ++ (codes "'><rect class='" ++ (look_of m).class ∷ []) ++ letter_text m
-    ++ codes "</text></g>"
+    (codes "<defs><g id='" ++ (look_of m).letter ∷ []) ++ (codes "'><rect class='" ++ (look_of m).class ∷ []) ++ letter_text m
+    ++ (codes "</text></g></defs><use href='#" ++ (look_of m).letter ∷ []) ++ codes "'/>"
 
 -- what it is the mark of
 unfoldable pub words_text : Mark → List ℕ

@@ -233,18 +233,19 @@ fn add_letter(buf: &mut [u8], at: usize, mark: Mark) -> usize
     add_with_byte(buf, at, b"'>", look_of(mark).shown)
 }
 
-// Adds a mark as it is drawn.
+// Adds a mark as it is drawn, and one that is drawn so.
 #[tactic(auto, unfolding(crate::specs::Legend::shape_text))]
 fn add_shape(buf: &mut [u8], at: usize, mark: Mark) -> usize
-    requires { at + 200 ≤ length buf.old }
+    requires { at + 220 ≤ length buf.old }
     ensures text { take result buf.new ≡ take at buf.old ++ shape_text mark }
-    ensures near { result ≤ at + 200 }
+    ensures near { result ≤ at + 220 }
 {
     let look = look_of(mark);
-    let at = add_with_byte(buf, at, b"<g id='", look.letter);
+    let at = add_with_byte(buf, at, b"<defs><g id='", look.letter);
     let at = add_with_byte(buf, at, b"'><rect class='", look.class);
     let at = add_letter(buf, at, mark);
-    add(buf, at, b"</text></g>")
+    let at = add_with_byte(buf, at, b"</text></g></defs><use href='#", look.letter);
+    add(buf, at, b"'/>")
 }
 
 // Adds what the mark is the mark of.
@@ -261,9 +262,9 @@ fn add_words(buf: &mut [u8], at: usize, mark: Mark) -> usize
 
 // Adds a mark and what it is the mark of.
 fn add_mark_body(buf: &mut [u8], at: usize, mark: Mark) -> usize
-    requires { at + 280 ≤ length buf.old }
+    requires { at + 300 ≤ length buf.old }
     ensures text { take result buf.new ≡ take at buf.old ++ mark_body mark }
-    ensures near { result ≤ at + 280 }
+    ensures near { result ≤ at + 300 }
 {
     let at = add_shape(buf, at, mark);
     add_words(buf, at, mark)
@@ -271,9 +272,9 @@ fn add_mark_body(buf: &mut [u8], at: usize, mark: Mark) -> usize
 
 // Adds what an entry shows, and its words.
 fn add_body(buf: &mut [u8], at: usize, entry: Entry) -> usize
-    requires { at + 280 ≤ length buf.old }
+    requires { at + 300 ≤ length buf.old }
     ensures text { take result buf.new ≡ take at buf.old ++ body_of entry }
-    ensures near { result ≤ at + 280 }
+    ensures near { result ≤ at + 300 }
 {
     match entry {
         Entry::OfMark(mark) => add_mark_body(buf, at, mark),
@@ -309,9 +310,9 @@ fn add_body(buf: &mut [u8], at: usize, entry: Entry) -> usize
 #[tactic(auto, unfolding(crate::specs::Legend::entry_text))]
 fn add_entry(buf: &mut [u8], at: usize, before: u64, entry: Entry) -> usize
     requires few { before < 2 ^ 32 }
-    requires room { at + 380 ≤ length buf.old }
+    requires room { at + 400 ≤ length buf.old }
     ensures text { take result buf.new ≡ take at buf.old ++ entry_text before entry }
-    ensures near { result ≤ at + 380 }
+    ensures near { result ≤ at + 400 }
 {
     let at = add_place_in_legend(buf, at, before);
     add_body(buf, at, entry)
@@ -339,9 +340,9 @@ fn add_entry_if(buf: &mut [u8], at: usize, shown: &Table, place: u64, before: u6
     requires within { place < 24 }
     requires before { before ≡ shown_before (entry_of shown.now) place }
     requires few { before < 2 ^ 32 }
-    requires room { at + 380 ≤ length buf.old }
+    requires room { at + 400 ≤ length buf.old }
     ensures text { take result buf.new ≡ take at buf.old ++ entry_if (entry_of shown.now) place }
-    ensures near { result ≤ at + 380 }
+    ensures near { result ≤ at + 400 }
 {
     if is_shown(shown, place) {
         add_entry(buf, at, before, entry_at(place))
@@ -366,9 +367,9 @@ fn count_shown(shown: &Table, places: u64) -> u64
 /// Adds the legend of what is in the table, by the names of the entries.
 #[tactic(auto, unfolding(crate::specs::Legend::legend_text))]
 pub fn add_legend(buf: &mut [u8], at: usize, shown: &Table) -> usize
-    requires { at + 9120 ≤ length buf.old }
+    requires { at + 9600 ≤ length buf.old }
     ensures text { take result buf.new ≡ take at buf.old ++ legend_text (entry_of shown.now) }
-    ensures near { result ≤ at + 9120 }
+    ensures near { result ≤ at + 9600 }
 {
     let mut last = at;
     for place in 0..24 {

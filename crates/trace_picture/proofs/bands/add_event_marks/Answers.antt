@@ -15,4 +15,4 @@ returns-clause-text c =
     let e = c.args.e.now in
     let m = c.requires.same in
     added_five old _ _ _ _ _ _ _ _ c.add_label-at.ensures.text c.add_life_row-at.ensures.text c.add_mark-at.ensures.text _ _ c.add_object_if-at.ensures.text c.add_bars_ended.ensures.text
-    ∙ (λ i. old ++ (number_text b n ++ life_row b n (m i).life ++ mark_text b n e ++ object_if b n e ++ bars_ended (up_to b n) k (m i)))
+    ∙ (λ i. old ++ (number_text b n ++ life_row b n (m i).life ++ mark_text c.args.ordered b n e ++ object_if b n e ++ bars_ended (up_to b n) k (m i)))

@@ -14,6 +14,6 @@ returns-then-is_in_view-clause-text c =
     let e = c.args.e.now in
     let old = take c.args.at c.args.buf.now in
     let k = tracked_of c.args.board.now in
-    let drawn = opening l v k n ++ event_shapes (band_of l v n) k n e ++ closing_after l v (tracked_after n e k) n in
-    c.add_drawn.ensures.text ∙ ap (λ x. old ++ (opening l v k n ++ event_shapes (band_of l v n) k n e ++ closing_after l v x n)) c.add_drawn.ensures.kept
+    let drawn = opening l v k n ++ event_shapes v.ordered (band_of l v n) k n e ++ closing_after l v (tracked_after n e k) n in
+    c.add_drawn.ensures.text ∙ ap (λ x. old ++ (opening l v k n ++ event_shapes v.ordered (band_of l v n) k n e ++ closing_after l v x n)) c.add_drawn.ensures.kept
     ∙ ap (λ x. old ++ x) (sym (cond-true (in_view v n) drawn [] (sym c.is_in_view.ensures ∙ c.if-is_in_view.true)))
