@@ -76,7 +76,9 @@ fn count_in(table: &Table, things: u32) -> u32
 {
     let mut count = 0;
     for k in 0..things {
-        count += u32::from(table.at(k).is_some());
+        if table.at(k).is_some() {
+            count += 1;
+        }
     }
     count
 }
@@ -89,7 +91,9 @@ fn count_let_go(board: &TraceState, threads: u32) -> u32
 {
     let mut count = 0;
     for t in 0..threads {
-        count += u32::from(board.waker(Reason::Condition(t)).is_some());
+        if board.waker(Reason::Condition(t)).is_some() {
+            count += 1;
+        }
     }
     count
 }

@@ -359,7 +359,9 @@ fn count_shown(shown: &Table, places: u64) -> u64
 {
     let mut count = 0;
     for place in 0..places {
-        count += u64::from(is_shown(shown, place));
+        if is_shown(shown, place) {
+            count += 1;
+        }
     }
     count
 }
