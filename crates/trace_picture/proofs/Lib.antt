@@ -7,4 +7,5 @@ pub mod Lines
 pub mod Ringing
 pub mod RowsSeen
 pub mod Seeing
+pub mod Showing
 pub mod Waits

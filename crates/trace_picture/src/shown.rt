@@ -1,5 +1,5 @@
 //! What was drawn so far, for the legend: by the name of each entry, the latest event that showed it.
-ghost use Rattle.std.specs.Prelude.{◌≡◌, ◌≤◌, is_some};
+ghost use Rattle.std.specs.Prelude.{◌≡◌, ◌<◌, ◌≤◌, is_some};
 ghost use Rattle.larch_actions.specs.Layout.{IsLawful};
 ghost use Rattle.larch_actions.specs.State.{count_below};
 ghost use Rattle.trace_board.specs.History.{entry_of};
@@ -68,6 +68,14 @@ fn show_if(shown: &mut Table, name: u8, so: bool, by: Origin)
     }
 }
 
+// Whether the thing is in the table.
+fn is_in(table: &Table, k: u32) -> bool
+    requires { k < 256 }
+    ensures { result ≡ is_some (entry_of table.now k) }
+{
+    table.at(k).is_some()
+}
+
 // How many of the first things are in the table.
 fn count_in(table: &Table, things: u32) -> u32
     requires { things ≤ 256 }
@@ -76,11 +84,19 @@ fn count_in(table: &Table, things: u32) -> u32
 {
     let mut count = 0;
     for k in 0..things {
-        if table.at(k).is_some() {
+        if is_in(table, k) {
             count += 1;
         }
     }
     count
+}
+
+// Whether the thread was let go on and has not resumed.
+fn is_let_go(board: &TraceState, t: u32) -> bool
+    requires { t < 256 }
+    ensures { result ≡ is_some (came (cause_of board.now.stands t)) }
+{
+    board.waker(Reason::Condition(t)).is_some()
 }
 
 // How many of the first threads were let go on and have not resumed.
@@ -91,7 +107,7 @@ fn count_let_go(board: &TraceState, threads: u32) -> u32
 {
     let mut count = 0;
     for t in 0..threads {
-        if board.waker(Reason::Condition(t)).is_some() {
+        if is_let_go(board, t) {
             count += 1;
         }
     }
