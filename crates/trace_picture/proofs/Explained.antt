@@ -51,6 +51,7 @@ module _ (l : Layout) (v : DrawnRange) where
       k = tracked_since past
       n = length past
       f = opened l v k (origin_of n e) (shown_since l v past)
+
       at : (b : Bool) → is_some ((cond b (shown_by (origin_of n e) (marks e) (has_text (arrows_at (band_of l v n) k (origin_of n e) (marks e))) f) (shown_since l v past)) x) ≡ true
       at true = stays_by (origin_of n e) (marks e) _ f x (stays_if _ true (origin_of n e) f x (stays_opened l v k (origin_of n e) (shown_since l v past) x h))
       at false = h
@@ -215,6 +216,7 @@ module _ (l : Layout) (v : DrawnRange) (m : Mark) where
       k = tracked_since past
       o = origin_of (length past) e
       f = opened l v k o (shown_since l v past)
+
       at : (b : Bool) → in_view v (length past) ≡ b → is_some ((cond b (shown_by o (marks e) (has_text (arrows_at (band_of l v (length past)) k o (marks e))) f) (shown_since l v past)) (look_of m).letter) ≡ true
           → WasDrawn (e ∷ past)
       at true seen h =

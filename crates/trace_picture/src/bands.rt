@@ -470,7 +470,16 @@ fn add_event_shapes(
         object: shown.object,
         place,
     };
-    let marked = add_event_marks(buf, at, &band, &drawing.board, place, e, &shown, view.ordered);
+    let marked = add_event_marks(
+        buf,
+        at,
+        &band,
+        &drawing.board,
+        place,
+        e,
+        &shown,
+        view.ordered,
+    );
     let end = add_arrows(buf, marked, &band, &drawing.board, &by, &shown);
     note_opening(&mut drawing.shown, layout, view, &drawing.board, by);
     note_event(&mut drawing.shown, &shown, marked < end, by);

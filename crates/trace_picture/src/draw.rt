@@ -206,7 +206,15 @@ fn draw_all<I: Source, O: Sink>(
                 }
                 Err(why) => {
                     return match end_failed(
-                        buf, free, &layout, view, &mut drawing, place, &event, why, out,
+                        buf,
+                        free,
+                        &layout,
+                        view,
+                        &mut drawing,
+                        place,
+                        &event,
+                        why,
+                        out,
                     ) {
                         Ok(()) => Ok(Verdict::Illegal { place, why }),
                         Err(fault) => Err(fault),
@@ -216,7 +224,9 @@ fn draw_all<I: Source, O: Sink>(
             Ok(None) => {
                 let totals = state.summary();
                 let left = summary_of(place, &totals);
-                return match end_legal(buf, free, &layout, view, &drawing, graph, place, left, out) {
+                return match end_legal(
+                    buf, free, &layout, view, &drawing, graph, place, left, out,
+                ) {
                     Ok(()) => Ok(Verdict::Legal(left)),
                     Err(fault) => Err(fault),
                 };

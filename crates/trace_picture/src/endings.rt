@@ -227,17 +227,16 @@ fn add_failed_end(
     ensures near { result ≤ at + 77000 }
 {
     let at = add_lines(buf, at, layout, view, drawing, place + 1);
-    let at = add_refusal(
+    let at = add_refusal(buf, at, layout.version, view, &drawing.board, place, e, why);
+    add_last_tags(
         buf,
         at,
-        layout.version,
+        layout,
         view,
-        &drawing.board,
-        place,
-        e,
-        why,
-    );
-    add_last_tags(buf, at, layout, view, &drawing.shown, place + 1, THREE_LINES)
+        &drawing.shown,
+        place + 1,
+        THREE_LINES,
+    )
 }
 
 /// Adds the event that fails, and the end of the picture.
