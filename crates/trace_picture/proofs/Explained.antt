@@ -34,27 +34,30 @@ stays_if name true o f x h = at (eqb x name)
     at true = refl
     at false = h
 
+both_ways : (b : Bool) (f g : ℕ → Option Origin) (x : ℕ) → is_some (f x) ≡ true → is_some (g x) ≡ true → is_some ((cond b f g) x) ≡ true
+both_ways true f g x h k = h
+both_ways false f g x h k = k
+
+one_way : (b : Bool) (f g : ℕ → Option Origin) (x : ℕ) → is_some ((cond b f g) x) ≡ true → ((b ≡ true) × (is_some (f x) ≡ true)) ⊎ (is_some (g x) ≡ true)
+one_way true f g x h = inl (refl, h)
+one_way false f g x h = inr h
+
 stays_opened : (l : Layout) (v : DrawnRange) (k : Tracked) (o : Origin) (f : ℕ → Option Origin) (x : ℕ) → is_some (f x) ≡ true → is_some (opened l v k o f x) ≡ true
-stays_opened l v k o f x h = at (column v o.place == 0)
-  where
-    at : (b : Bool) → is_some ((cond b (going_on l k o f) f) x) ≡ true
-    at true = stays_if _ _ o _ x (stays_if _ _ o _ x (stays_if _ _ o _ x (stays_if _ _ o f x h)))
-    at false = h
+stays_opened l v k o f x h =
+    both_ways (column v o.place == 0) (going_on l k o f) f x (stays_if _ _ o _ x (stays_if _ _ o _ x (stays_if _ _ o _ x (stays_if _ _ o f x h)))) h
 
 stays_by : (o : Origin) (m : Effects) (arrows : Bool) (f : ℕ → Option Origin) (x : ℕ) → is_some (shown_if (look_of m.mark).letter true o f x) ≡ true → is_some (shown_by o m arrows f x) ≡ true
 stays_by o m arrows f x h = stays_if _ _ o _ x (stays_if _ _ o _ x (stays_if _ _ o _ x (stays_if _ _ o _ x (stays_if _ _ o _ x h))))
 
 module _ (l : Layout) (v : DrawnRange) where
   stays_after : (past : List Event) (e : Event) (x : ℕ) → is_some (shown_since l v past x) ≡ true → is_some (shown_since l v (e ∷ past) x) ≡ true
-  stays_after past e x h = at (in_view v (length past))
-    where
-      k = tracked_since past
-      n = length past
-      f = opened l v k (origin_of n e) (shown_since l v past)
-
-      at : (b : Bool) → is_some ((cond b (shown_by (origin_of n e) (marks e) (has_text (arrows_at (band_of l v n) k (origin_of n e) (marks e))) f) (shown_since l v past)) x) ≡ true
-      at true = stays_by (origin_of n e) (marks e) _ f x (stays_if _ true (origin_of n e) f x (stays_opened l v k (origin_of n e) (shown_since l v past) x h))
-      at false = h
+  stays_after past e x h =
+      let k = tracked_since past in
+      let o = origin_of (length past) e in
+      let before = shown_since l v past in
+      let f = opened l v k o before in
+      let now = shown_by o (marks e) (has_text (arrows_at (band_of l v (length past)) k o (marks e))) f in
+      both_ways (in_view v (length past)) now before x (stays_by o (marks e) _ f x (stays_if _ true o f x (stays_opened l v k o before x h))) h
 
   stays : (es past : List Event) (x : ℕ) → is_some (shown_since l v past x) ≡ true → is_some (shown_since l v (extended past es) x) ≡ true
   stays [] past x h = h
@@ -180,13 +183,12 @@ no_let_go = refl
 -- what goes on into a band is no mark
 before_opened : (l : Layout) (v : DrawnRange) (k : Tracked) (o : Origin) (f : ℕ → Option Origin) (m : Mark)
     → is_some (opened l v k o f (look_of m).letter) ≡ true → is_some (f (look_of m).letter) ≡ true
-before_opened l v k o f m h = at (column v o.place == 0) h
-  where
-    at : (b : Bool) → is_some ((cond b (going_on l k o f) f) (look_of m).letter) ≡ true → is_some (f (look_of m).letter) ≡ true
-    at true h =
-        is_no_mark HOLDS no_holds m _ o f
-        (is_no_mark TAKINGS no_takings m _ o _ (is_no_mark WAITS no_waits m _ o _ (is_no_mark LET_GO no_let_go m _ o _ h)))
-    at false h = h
+before_opened l v k o f m h =
+    ⊎_elim (λ (a : (column v o.place == 0 ≡ true) × (is_some (going_on l k o f (look_of m).letter) ≡ true)).
+    is_no_mark HOLDS no_holds m _ o f
+    (is_no_mark TAKINGS no_takings m _ o _ (is_no_mark WAITS no_waits m _ o _ (is_no_mark LET_GO no_let_go m _ o _ a.1))))
+    (λ (was : is_some (f (look_of m).letter) ≡ true). was)
+    (one_way (column v o.place == 0) (going_on l k o f) f (look_of m).letter h)
 
 -- an event shows its own mark alone
 before_by : (o : Origin) (e : Effects) (arrows : Bool) (f : ℕ → Option Origin) (m : Mark) → is_some (shown_by o e arrows f (look_of m).letter) ≡ true
@@ -211,19 +213,19 @@ module _ (l : Layout) (v : DrawnRange) (m : Mark) where
 
   was_drawn : (past : List Event) → is_some (shown_since l v past (look_of m).letter) ≡ true → WasDrawn past
   was_drawn [] h = absurd (true≢false (sym h))
-  was_drawn (e ∷ past) h = at (in_view v (length past)) refl h
-    where
-      k = tracked_since past
-      o = origin_of (length past) e
-      f = opened l v k o (shown_since l v past)
-
-      at : (b : Bool) → in_view v (length past) ≡ b → is_some ((cond b (shown_by o (marks e) (has_text (arrows_at (band_of l v (length past)) k o (marks e))) f) (shown_since l v past)) (look_of m).letter) ≡ true
-          → WasDrawn (e ∷ past)
-      at true seen h =
-          ⊎_elim (λ (is : (marks e).mark ≡ m). ([], past, e, refl, seen, is))
-          (λ (was : is_some (f (look_of m).letter) ≡ true). later e past (was_drawn past (before_opened l v k o (shown_since l v past) m was)))
-          (before_by o (marks e) _ f m h)
-      at false out h = later e past (was_drawn past h)
+  was_drawn (e ∷ past) h =
+      let k = tracked_since past in
+      let o = origin_of (length past) e in
+      let before = shown_since l v past in
+      let f = opened l v k o before in
+      let arrows = has_text (arrows_at (band_of l v (length past)) k o (marks e)) in
+      let now = shown_by o (marks e) arrows f in
+      ⊎_elim (λ (a : (in_view v (length past) ≡ true) × (is_some (now (look_of m).letter) ≡ true)).
+      ⊎_elim (λ (is : (marks e).mark ≡ m). ([], past, e, refl, a.0, is))
+      (λ (was : is_some (f (look_of m).letter) ≡ true). later e past (was_drawn past (before_opened l v k o before m was)))
+      (before_by o (marks e) arrows f m a.1))
+      (λ (was : is_some (before (look_of m).letter) ≡ true). later e past (was_drawn past was))
+      (one_way (in_view v (length past)) now before (look_of m).letter h)
 
 pub drawn_are_explained : DrawnAreExplained
 drawn_are_explained = λ l v past m h. was_drawn l v m past h
