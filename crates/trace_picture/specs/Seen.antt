@@ -1,5 +1,6 @@
 -- What the marks and the bars that are drawn say.
 use Rattle.std.specs.Prelude.{◌≡◌, ◌≢◌, ℕ, ◌+◌, ◌-◌, ◌*◌, ◌%◌, ◌<◌, ◌≤◌, true, false, if◌then◌else◌, List, [], ◌∷◌, ◌++◌, length, codes, is_some, Some, MatchOption}
+use Rattle.std.specs.declared.option.Option.{Option}
 use Rattle.larch_actions.specs.declared.event.Layout.{Layout}
 use Rattle.larch_actions.specs.declared.event.Version.TheVariants.{Two}
 use Rattle.larch_actions.specs.declared.event.ThreadId.{ThreadId}
