@@ -150,7 +150,9 @@ pub fn note_opening(
 fn lets_go_on(effects: &Effects, arrows: bool) -> bool
     ensures { result ≡ lets_go_on effects.now arrows }
 {
-    ends(effects.wait) || (frees(effects.stand) && arrows)
+    let ended = ends(effects.wait);
+    let freed = frees(effects.stand);
+    ended || (freed && arrows)
 }
 
 /// Notes what the event shows that has these effects, and has arrows or none.
