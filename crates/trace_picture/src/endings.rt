@@ -105,9 +105,9 @@ fn add_last_tags(
 
 // Adds the legend, between the ends of what it moves down and of what the words at the top move down.
 fn add_legend_after(buf: &mut [u8], at: usize, shown: &Table) -> usize
-    requires { at + 9200 ≤ length buf.old }
+    requires { at + 9700 ≤ length buf.old }
     ensures text { take result buf.new ≡ take at buf.old ++ (codes "</g>\n" ++ legend_text (entry_of shown.now) ++ codes "</g>\n") }
-    ensures near { result ≤ at + 9200 }
+    ensures near { result ≤ at + 9700 }
 {
     let at = add(buf, at, b"</g>\n");
     let at = add_legend(buf, at, shown);
@@ -125,10 +125,10 @@ fn add_lines(
 ) -> usize
     requires lawful { IsLawful layout.now }
     requires few { count < 2 ^ 42 }
-    requires room { at + 45100 ≤ length buf.old }
+    requires room { at + 45600 ≤ length buf.old }
     ensures text { take result buf.new ≡ take at buf.old ++ (holds_text layout.now.mutexes (tracked_of drawing.now.board) count
         (height_of layout.now view.now count) ++ (codes "</g>\n" ++ legend_text (entry_of drawing.now.shown) ++ codes "</g>\n")) }
-    ensures near { result ≤ at + 45100 }
+    ensures near { result ≤ at + 45600 }
 {
     let low = height(layout, view, count);
     let at = add_holds(buf, at, layout.mutexes, &drawing.board, count, low);
@@ -150,10 +150,10 @@ fn add_end(
     requires lawful { IsLawful layout.now }
     requires few { count < 2 ^ 42 }
     requires short { length words.now ≤ 120 }
-    requires room { at + 46000 ≤ length buf.old }
+    requires room { at + 46500 ≤ length buf.old }
     ensures text { take result buf.new ≡ take at buf.old ++ end_text layout.now view.now (drawn_of drawing.now) count ONE_LINE
         (counted_line view.now count words.now left) }
-    ensures near { result ≤ at + 46000 }
+    ensures near { result ≤ at + 46500 }
 {
     let at = add_lines(buf, at, layout, view, drawing, count);
     let at = add_counted_line(buf, at, view, count, words, left);
@@ -221,10 +221,10 @@ fn add_failed_end(
     requires lawful { IsLawful layout.now }
     requires noted { IsNoted e.now }
     requires few { place < 2 ^ 41 }
-    requires room { at + 77000 ≤ length buf.old }
+    requires room { at + 77100 ≤ length buf.old }
     ensures text { take result buf.new ≡ take at buf.old ++ end_text layout.now view.now (drawn_of drawing.now) (place + 1) THREE_LINES
         (refusal layout.now.version view.now (tracked_of drawing.now.board) place e.now why) }
-    ensures near { result ≤ at + 77000 }
+    ensures near { result ≤ at + 77100 }
 {
     let at = add_lines(buf, at, layout, view, drawing, place + 1);
     let at = add_refusal(buf, at, layout.version, view, &drawing.board, place, e, why);
