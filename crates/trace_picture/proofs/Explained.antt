@@ -1,26 +1,28 @@
 -- The legend explains the marks of the events that are drawn, and no others.
 use Rattle.std.proofs.Common.{◌≡◌, ℕ, suc, ◌<◌, Bool, true, false, cond, eqb, List, [], ◌∷◌, ◌++◌, length, refl, ap, sym, subst, ◌∙◌, ⊎_elim, inl, inr, ◌⊎◌, eq-eqb, Some, None, arith}
-use Rattle.std.specs.Prelude.{codes, is_some, slice_index_or, ◌==◌}
+use Rattle.std.specs.Prelude.{codes, is_some, nat_lt, slice_index_or, ◌==◌}
 use Rattle.std.specs.declared.option.Option.{Option}
 use Rattle.std.proofs.lemmas.Bool.{cond-true, eqb-true, true≢false}
 use Rattle.larch_actions.specs.declared.event.Layout.{Layout}
 use Rattle.larch_actions.specs.declared.event.Event.{Event}
 use Rattle.larch_actions.specs.Actions.{put}
+use Rattle.larch_actions.specs.State.{count_below}
 use Rattle.trace_board.specs.declared.history.Origin.{Origin}
 use Rattle.trace_board.specs.declared.marks.Mark.{Mark}
 use Rattle.trace_board.specs.declared.marks.Mark.TheVariants.{Acquire, Release, Enqueue, Resume, Signal, Broadcast, P, V, Alert, TestAlert, AlertEnqueue, AlertReturn, AlertRaise, AlertPReturn, AlertPRaise, Fork, End, Join, Failed}
 use Rattle.trace_board.specs.declared.marks.Effects.{Effects}
 use Rattle.trace_board.specs.History.{origin_of}
 use Rattle.trace_board.specs.Marks.{marks}
-use Rattle.trace_board.specs.Tracked.{Tracked, tracked_since, extended}
+use Rattle.trace_board.specs.Tracked.{Tracked, tracked_since, extended, came}
 use Rattle.trace_shapes.specs.declared.view.DrawnRange.{DrawnRange}
 use Rattle.trace_shapes.specs.declared.legend.Entry.TheVariants.{OfMark}
 use Rattle.trace_shapes.specs.declared.legend.TheConstants.{ARROWS, TAKINGS, HOLDS, WAITS, LET_GO}
 use Rattle.trace_shapes.specs.Looks.{look_of}
+use Rattle.trace_shapes.specs.Shapes.{begins}
 use Rattle.trace_shapes.specs.Legend.{name_of, entry_at, entry_text, entry_if, is_shown, shown_before, legend_text}
 use Rattle.trace_shapes.specs.Places.{in_view, column, band_of}
 use Rattle.trace_picture.specs.Bands.{arrows_at}
-use Rattle.trace_picture.specs.Shown.{shown_if, going_on, opened, shown_by, has_text, shown_after, shown_since}
+use Rattle.trace_picture.specs.Shown.{shown_if, going_on, opened, lets_go_on, shown_by, has_text, shown_after, shown_since}
 use Rattle.trace_picture.specs.Seen.{HasText, MarksAreExplained, DrawnAreExplained}
 use Rattle.trace_picture.proofs.Parts.{each_has}
 use Rattle.trace_picture.proofs.Seeing.{index_of}
@@ -44,10 +46,26 @@ one_way false f g x h = inr h
 
 stays_opened : (l : Layout) (v : DrawnRange) (k : Tracked) (o : Origin) (f : ℕ → Option Origin) (x : ℕ) → is_some (f x) ≡ true → is_some (opened l v k o f x) ≡ true
 stays_opened l v k o f x h =
-    both_ways (column v o.place == 0) (going_on l k o f) f x (stays_if _ _ o _ x (stays_if _ _ o _ x (stays_if _ _ o _ x (stays_if _ _ o f x h)))) h
+    let held = nat_lt 0 (count_below (λ m. is_some (k.held m)) l.mutexes) in
+    let taken = nat_lt 0 (count_below (λ s. is_some (k.taken s)) l.semaphores) in
+    let waits = nat_lt 0 (count_below (λ t. is_some (k.waits t)) l.threads) in
+    let let_go = nat_lt 0 (count_below (λ t. is_some (came (k.stands t))) l.threads) in
+    let with_held = shown_if HOLDS held o f in
+    let with_taken = shown_if TAKINGS taken o with_held in
+    let with_waits = shown_if WAITS waits o with_taken in
+    both_ways (column v o.place == 0) (going_on l k o f) f x
+    (stays_if LET_GO let_go o with_waits x (stays_if WAITS waits o with_taken x (stays_if TAKINGS taken o with_held x (stays_if HOLDS held o f x h)))) h
 
 stays_by : (o : Origin) (m : Effects) (arrows : Bool) (f : ℕ → Option Origin) (x : ℕ) → is_some (shown_if (look_of m.mark).letter true o f x) ≡ true → is_some (shown_by o m arrows f x) ≡ true
-stays_by o m arrows f x h = stays_if _ _ o _ x (stays_if _ _ o _ x (stays_if _ _ o _ x (stays_if _ _ o _ x (stays_if _ _ o _ x h))))
+stays_by o m arrows f x h =
+    let with_mark = shown_if (look_of m.mark).letter true o f in
+    let with_held = shown_if HOLDS (begins m.mutex) o with_mark in
+    let with_taken = shown_if TAKINGS (begins m.semaphore) o with_held in
+    let with_waits = shown_if WAITS (begins m.wait) o with_taken in
+    let with_arrows = shown_if ARROWS arrows o with_waits in
+    stays_if LET_GO (lets_go_on m arrows) o with_arrows x
+    (stays_if ARROWS arrows o with_waits x
+    (stays_if WAITS (begins m.wait) o with_taken x (stays_if TAKINGS (begins m.semaphore) o with_held x (stays_if HOLDS (begins m.mutex) o with_mark x h))))
 
 module _ (l : Layout) (v : DrawnRange) where
   stays_after : (past : List Event) (e : Event) (x : ℕ) → is_some (shown_since l v past x) ≡ true → is_some (shown_since l v (e ∷ past) x) ≡ true
@@ -184,9 +202,16 @@ no_let_go = refl
 before_opened : (l : Layout) (v : DrawnRange) (k : Tracked) (o : Origin) (f : ℕ → Option Origin) (m : Mark)
     → is_some (opened l v k o f (look_of m).letter) ≡ true → is_some (f (look_of m).letter) ≡ true
 before_opened l v k o f m h =
+    let held = nat_lt 0 (count_below (λ m. is_some (k.held m)) l.mutexes) in
+    let taken = nat_lt 0 (count_below (λ s. is_some (k.taken s)) l.semaphores) in
+    let waits = nat_lt 0 (count_below (λ t. is_some (k.waits t)) l.threads) in
+    let let_go = nat_lt 0 (count_below (λ t. is_some (came (k.stands t))) l.threads) in
+    let with_held = shown_if HOLDS held o f in
+    let with_taken = shown_if TAKINGS taken o with_held in
+    let with_waits = shown_if WAITS waits o with_taken in
     ⊎_elim (λ (a : (column v o.place == 0 ≡ true) × (is_some (going_on l k o f (look_of m).letter) ≡ true)).
-    is_no_mark HOLDS no_holds m _ o f
-    (is_no_mark TAKINGS no_takings m _ o _ (is_no_mark WAITS no_waits m _ o _ (is_no_mark LET_GO no_let_go m _ o _ a.1))))
+    is_no_mark HOLDS no_holds m held o f
+    (is_no_mark TAKINGS no_takings m taken o with_held (is_no_mark WAITS no_waits m waits o with_taken (is_no_mark LET_GO no_let_go m let_go o with_waits a.1))))
     (λ (was : is_some (f (look_of m).letter) ≡ true). was)
     (one_way (column v o.place == 0) (going_on l k o f) f (look_of m).letter h)
 
@@ -194,10 +219,16 @@ before_opened l v k o f m h =
 before_by : (o : Origin) (e : Effects) (arrows : Bool) (f : ℕ → Option Origin) (m : Mark) → is_some (shown_by o e arrows f (look_of m).letter) ≡ true
     → (e.mark ≡ m) ⊎ (is_some (f (look_of m).letter) ≡ true)
 before_by o e arrows f m h =
+    let with_mark = shown_if (look_of e.mark).letter true o f in
+    let with_held = shown_if HOLDS (begins e.mutex) o with_mark in
+    let with_taken = shown_if TAKINGS (begins e.semaphore) o with_held in
+    let with_waits = shown_if WAITS (begins e.wait) o with_taken in
+    let with_arrows = shown_if ARROWS arrows o with_waits in
     own (eqb (look_of m).letter (look_of e.mark).letter) refl
-    (is_no_mark HOLDS no_holds m _ o _
-    (is_no_mark TAKINGS no_takings m _ o _
-    (is_no_mark WAITS no_waits m _ o _ (is_no_mark ARROWS no_arrows m _ o _ (is_no_mark LET_GO no_let_go m _ o _ h)))))
+    (is_no_mark HOLDS no_holds m (begins e.mutex) o with_mark
+    (is_no_mark TAKINGS no_takings m (begins e.semaphore) o with_held
+    (is_no_mark WAITS no_waits m (begins e.wait) o with_taken
+    (is_no_mark ARROWS no_arrows m arrows o with_waits (is_no_mark LET_GO no_let_go m (lets_go_on e arrows) o with_arrows h)))))
   where
     own : (b : Bool) → eqb (look_of m).letter (look_of e.mark).letter ≡ b → is_some (cond b (Some o) (f (look_of m).letter)) ≡ true
         → (e.mark ≡ m) ⊎ (is_some (f (look_of m).letter) ≡ true)

@@ -34,7 +34,7 @@ use Rattle.trace_board.proofs.Extended.{length-extended}
 use Rattle.trace_board.proofs.Holding as holding
 
 -- the place of a letter among others
-pub index_of : ℕ → List ℕ → ℕ
+unfoldable pub index_of : ℕ → List ℕ → ℕ
 index_of x [] = 0
 index_of x (y ∷ ys) = cond (eqb x y) 0 (suc (index_of x ys))
 

@@ -1,5 +1,6 @@
-use Rattle.std.proofs.Common.{◌≡◌, ◌≤◌, Bool, ◌++◌, length, take, ap, ◌∙◌, arith}
+use Rattle.std.proofs.Common.{◌≡◌, ◌≤◌, ◌++◌, length, take, ◌∙◌, arith}
 use Rattle.trace_board.specs.History.{entry_of}
+use Rattle.trace_board.specs.declared.history.Origin.{Origin}
 use Rattle.trace_board.specs.Tracked.{tracked_of}
 use Rattle.trace_shapes.proofs.Added.{added_two}
 use Rattle.trace_picture.specs.Bands.{event_marks, arrows_at, event_shapes}
@@ -34,6 +35,8 @@ returns-clause-shown c =
     let within_too : end.result ≤ length end.new.buf = omega (arith, marked.ensures.near, end.ensures.near, marked.auto.buf, end.auto.buf, c.requires.room) in
     let arrows = text_there marked.new.buf end.new.buf _ marked.result end.result within within_too end.ensures.text in
     let shown = entry_of c.args.drawing.now.shown in
-    c.note_event.ensures ∙ ap (shown_by _ _ _) c.note_opening.ensures
-    ∙ ap (λ (x : Bool). shown_by (record { thread = e.thread; object = c.marks_of-shown.result.object; place = n }) c.marks_of-shown.result x (opened l v k (record { thread = e.thread; object = c.marks_of-shown.result.object; place = n }) shown)) arrows
+    let own = c.marks_of-shown.result in
+    let by : Origin = record { thread = e.thread; object = own.object; place = n } in
+    let opening = c.note_opening.ensures in
+    c.note_event.ensures ∙ (λ i. shown_by by own (arrows i) (opening i))
     ∙ (λ i. shown_by (record { thread = e.thread; object = (m i).object; place = n }) (m i) (has_text (arrows_at (b i) k (record { thread = e.thread; object = (m i).object; place = n }) (m i))) (opened l v k (record { thread = e.thread; object = (m i).object; place = n }) shown))
