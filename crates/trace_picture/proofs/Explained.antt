@@ -1,11 +1,10 @@
 -- The legend explains the marks of the events that are drawn, and no others.
-use Rattle.std.proofs.Common.{◌≡◌, ℕ, suc, ◌<◌, Bool, true, false, cond, eqb, List, [], ◌∷◌, ◌++◌, length, refl, ap, sym, subst, ◌∙◌, ⊎_elim, inl, inr, ◌⊎◌, eq-eqb, Some, None, arith}
+use Rattle.std.proofs.Common.{◌≡◌, ℕ, ◌<◌, Bool, true, false, cond, eqb, List, [], ◌∷◌, ◌++◌, length, refl, ap, sym, subst, ◌∙◌, ⊎_elim, inl, inr, ◌⊎◌, eq-eqb, Some, arith}
 use Rattle.std.specs.Prelude.{codes, is_some, nat_lt, slice_index_or, ◌==◌}
 use Rattle.std.specs.declared.option.Option.{Option}
 use Rattle.std.proofs.lemmas.Bool.{cond-true, eqb-true, true≢false}
 use Rattle.larch_actions.specs.declared.event.Layout.{Layout}
 use Rattle.larch_actions.specs.declared.event.Event.{Event}
-use Rattle.larch_actions.specs.Actions.{put}
 use Rattle.larch_actions.specs.State.{count_below}
 use Rattle.trace_board.specs.declared.history.Origin.{Origin}
 use Rattle.trace_board.specs.declared.marks.Mark.{Mark}
@@ -22,7 +21,7 @@ use Rattle.trace_shapes.specs.Shapes.{begins}
 use Rattle.trace_shapes.specs.Legend.{name_of, entry_at, entry_text, entry_if, is_shown, shown_before, legend_text}
 use Rattle.trace_shapes.specs.Places.{in_view, column, band_of}
 use Rattle.trace_picture.specs.Bands.{arrows_at}
-use Rattle.trace_picture.specs.Shown.{shown_if, going_on, opened, lets_go_on, shown_by, has_text, shown_after, shown_since}
+use Rattle.trace_picture.specs.Shown.{shown_if, going_on, opened, lets_go_on, shown_by, has_text, shown_since}
 use Rattle.trace_picture.specs.Seen.{HasText, MarksAreExplained, DrawnAreExplained}
 use Rattle.trace_picture.proofs.Parts.{each_has}
 use Rattle.trace_picture.proofs.Seeing.{index_of}

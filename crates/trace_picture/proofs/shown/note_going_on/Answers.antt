@@ -1,4 +1,4 @@
-use Rattle.std.proofs.Common.{◌<◌, ◌∙◌}
+use Rattle.std.proofs.Common.{◌∙◌}
 use Rattle.std.specs.Prelude.{nat_lt}
 use Rattle.trace_board.specs.History.{entry_of}
 use Rattle.trace_shapes.specs.declared.legend.TheConstants.{TAKINGS, HOLDS, WAITS, LET_GO}

@@ -1,4 +1,4 @@
-use Rattle.std.proofs.Common.{◌≡◌, ℕ, ap, sym, ◌∙◌, Some}
+use Rattle.std.proofs.Common.{ℕ, ap, sym, ◌∙◌, Some}
 use Rattle.std.proofs.lemmas.Bool.{cond-true}
 use Rattle.larch_actions.specs.Actions.{put}
 use Rattle.trace_board.specs.History.{entry_of}
