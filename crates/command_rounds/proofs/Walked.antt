@@ -1,11 +1,10 @@
 -- The events and stints of one thread in its rounds.
-use Rattle.std.proofs.Common.{Bool, true, false, cond, eqb, ◌≡◌, ◌⊎◌, ℕ, ◌+◌, ◌≤◌, zero, suc, List, [], ◌∷◌, ◌++◌, length, Some, None, arith, refl, sym, ap, subst, ◌∙◌, append_assoc, append-nil, length-append, eq-eqb, inl, inr}
+use Rattle.std.proofs.Common.{Bool, true, false, cond, eqb, ◌≡◌, ℕ, ◌+◌, suc, List, [], ◌∷◌, ◌++◌, Some, None, arith, refl, sym, ap, subst, ◌∙◌, eq-eqb, inl, inr}
 use Rattle.std.specs.List.{AllByRecursion}
-use Rattle.std.specs.Prelude.{filter}
 use Rattle.std.proofs.lemmas.List.Elements.{filter-append}
 use Rattle.std.proofs.lemmas.Option.{same_Some}
 use Rattle.larch_actions.specs.declared.event.Event.{Event}
-use Rattle.nub_rule.specs.Plays.{acquire_event, release_event, event, broadcast_action}
+use Rattle.nub_rule.specs.Plays.{acquire_event, release_event}
 use Rattle.larch_actions.specs.Takers.{gives}
 use Rattle.nub_rule.specs.Stints.{stints_at}
 use Rattle.barrier_once.specs.declared.share.RoundShare.{RoundShare}
