@@ -37,6 +37,7 @@ pub fn alert_p<U: Uses, R: Wait>(rt: &R, p: &Package<U>, me: &mut Thread<U>, s: 
     ensures event { Adds [] (p_end result me.old.number s.0) me.old me.new }
     ensures held { me.new.held ≡ me.old.held }
     ensures share { me.new.share ≡ me.old.share }
+    ensures stints { me.new.stints ≡ me.old.stints }
     ensures idle { (n : ℕ) (s : U.Share) → IsIdle p.now n s me.old → IsIdle p.now n s me.new }
     ensures holding { (n m : ℕ) (s : U.Share) (x : U.Value) → IsHolding p.now n m s x me.old → IsHolding p.now n m s x me.new }
 {

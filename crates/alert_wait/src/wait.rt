@@ -8,7 +8,7 @@ ghost use Rattle.nub_rule.specs.Known.{Holds, Makes, recorded};
 ghost use Rattle.nub_rule.specs.Plays.{alert_raise_event, enqueue_event};
 ghost use Rattle.gate.specs.Gates.{IsTaken};
 ghost use Rattle.nub.specs.Holding.{IsHolding};
-ghost use Rattle.nub.specs.Rest.{AtRest, Adds, HasStored, IsOutside, IsSame};
+ghost use Rattle.nub.specs.Rest.{AtRest, Adds, HasStored, IsOutside, IsSame, LeavesStint};
 ghost use Rattle.alert_wait.specs.Outcomes.{wait_end};
 
 use crate::outcome::Outcome;
@@ -57,6 +57,7 @@ pub fn alert_wait<U: Uses, C: Change<U>, R: Wait>(
     ensures held { me.new.held ≡ slice_set me.old.held m.0 (Some result.1) }
     ensures share { (w : U.World) (s : U.Share) (x : U.Value) → me.old.world ≡ Some w → me.old.share ≡ Some s
         → Holds me.old m.0 x → me.new.share ≡ Some (C.after w m.0 me.old.number x value s) }
+    ensures stint { LeavesStint C.after m.0 value me.old me.new }
     ensures fits { (w : U.World) (s : U.Share) → me.new.world ≡ Some w → me.new.share ≡ Some s → U.fits w m.0 result.1 me.new.number s }
     ensures holding { (n : ℕ) (s : U.Share) (x : U.Value) → IsHolding p.now n m.0 s x me.old
         → IsHolding p.now n m.0 (C.after p.now.world m.0 n x value s) result.1 me.new

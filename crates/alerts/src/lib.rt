@@ -32,6 +32,7 @@ pub fn alert<U: Uses, R: Wait>(rt: &R, p: &Package<U>, me: &mut Thread<U>, t: Th
     ensures event { Adds [] (alert_event me.old.number t.0) me.old me.new }
     ensures held { me.new.held ≡ me.old.held }
     ensures share { me.new.share ≡ me.old.share }
+    ensures stints { me.new.stints ≡ me.old.stints }
     ensures idle { (n : ℕ) (s : U.Share) → IsIdle p.now n s me.old → IsIdle p.now n s me.new }
     ensures holding { (n m : ℕ) (s : U.Share) (x : U.Value) → IsHolding p.now n m s x me.old → IsHolding p.now n m s x me.new }
 {
@@ -59,6 +60,7 @@ pub fn test_alert<U: Uses, R: Wait>(rt: &R, p: &Package<U>, me: &mut Thread<U>) 
     ensures event { Adds [] (test_alert_event me.old.number result) me.old me.new }
     ensures held { me.new.held ≡ me.old.held }
     ensures share { me.new.share ≡ me.old.share }
+    ensures stints { me.new.stints ≡ me.old.stints }
     ensures idle { (n : ℕ) (s : U.Share) → IsIdle p.now n s me.old → IsIdle p.now n s me.new }
     ensures holding { (n m : ℕ) (s : U.Share) (x : U.Value) → IsHolding p.now n m s x me.old → IsHolding p.now n m s x me.new }
 {

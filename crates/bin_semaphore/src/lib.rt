@@ -35,6 +35,7 @@ pub fn p<U: Uses, R: Wait>(rt: &R, pkg: &Package<U>, me: &mut Thread<U>, s: SemI
     ensures event { Adds [] (p_event me.old.number s.0) me.old me.new }
     ensures held { me.new.held ≡ me.old.held }
     ensures share { me.new.share ≡ me.old.share }
+    ensures stints { me.new.stints ≡ me.old.stints }
     ensures idle { (n : ℕ) (s : U.Share) → IsIdle pkg.now n s me.old → IsIdle pkg.now n s me.new }
     ensures holding { (n m : ℕ) (s : U.Share) (x : U.Value) → IsHolding pkg.now n m s x me.old → IsHolding pkg.now n m s x me.new }
 {
@@ -64,6 +65,7 @@ pub fn v<U: Uses, R: Wait>(rt: &R, pkg: &Package<U>, me: &mut Thread<U>, s: SemI
     ensures event { Adds [] (v_event me.old.number s.0) me.old me.new }
     ensures held { me.new.held ≡ me.old.held }
     ensures share { me.new.share ≡ me.old.share }
+    ensures stints { me.new.stints ≡ me.old.stints }
     ensures idle { (n : ℕ) (s : U.Share) → IsIdle pkg.now n s me.old → IsIdle pkg.now n s me.new }
     ensures holding { (n m : ℕ) (s : U.Share) (x : U.Value) → IsHolding pkg.now n m s x me.old → IsHolding pkg.now n m s x me.new }
 {

@@ -34,7 +34,7 @@ at_place [] n low = absurd (omega arith)
 at_place (x ∷ xs) zero low = (x, refl)
 at_place (x ∷ xs) (suc n) low = at_place xs n (omega arith)
 
-thread_at : (threads : List RoundThread) (shares : List RoundShare) → map (λ t. t.share) threads ≡ map (λ s. Some s) shares → (n : ℕ) (s : RoundShare) → get_elem? shares n ≡ some s → (k : RoundThread) × (get_elem? threads n ≡ some k) × (k.share ≡ Some s)
+pub thread_at : (threads : List RoundThread) (shares : List RoundShare) → map (λ t. t.share) threads ≡ map (λ s. Some s) shares → (n : ℕ) (s : RoundShare) → get_elem? shares n ≡ some s → (k : RoundThread) × (get_elem? threads n ≡ some k) × (k.share ≡ Some s)
 thread_at [] [] each n s at = absurd (some-ne-none s (sym at))
 thread_at [] (s ∷ shares) each n r at = absurd (cc)
 thread_at (k ∷ threads) [] each n s at = absurd (some-ne-none s (sym at))

@@ -12,7 +12,7 @@ ghost use Rattle.barrier_once.specs.Rounds.{fresh_share, triangle};
 ghost use Rattle.nub.specs.Ended.{IsFirst};
 ghost use Rattle.nub_rule.specs.Items.{Each};
 ghost use Rattle.command_rounds.specs.Playing.{AreTotals, IsPlaying, IsTable};
-ghost use Rattle.command_rounds.specs.RoundEvents.{AreEventsOf};
+ghost use Rattle.command_rounds.specs.RoundEvents.{AllHaveCome, AreEventsOf, IsOfFirst};
 
 use crate::play::{places, play};
 use barrier_once::{Cell, RoundUses, RoundWorld};
@@ -101,6 +101,9 @@ pub fn play_rounds<R: Threads + Wait + Sync>(
     ensures layout { IfOk result (λ r. r.closed.layout ≡ layout_of threads 3 1 0) }
     ensures trace { IfOk result (λ r. (h : List Event) × (r.closed.trace ≡ Some h) × IsClosed One h
         × AllByRecursion (HasNames (layout_of threads 3 1 0)) h × ((t : ℕ) → t < threads → AreEventsOf t rounds (by_thread t h))) }
+    ensures apart { IfOk result (λ r. (h : List Event) → r.closed.trace ≡ Some h → AllHaveCome threads h) }
+    ensures first { IfOk result (λ r. (h : List Event) (v : ℕ) → r.closed.trace ≡ Some h
+        → get_elem? r.closed.values 2 ≡ some (Once (Some v)) → IsOfFirst v h) }
     ensures values { IfOk result (λ r. (v : ℕ) × (1 ≤ v) × (v ≤ threads)
         × (r.closed.values ≡ Bar (2 * rounds) 0 ∷ Sum (rounds * triangle threads) ∷ Once (Some v) ∷ [])) }
     ensures totals { IfOk result (λ r. AreTotals threads rounds r.totals.items) }

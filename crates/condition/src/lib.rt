@@ -14,7 +14,7 @@ ghost use Rattle.nub_rule.specs.Places.{cond_object};
 ghost use Rattle.nub_rule.specs.Plays.{broadcast_action, enqueue_event, event, signal_action, unread};
 ghost use Rattle.nub.specs.Holding.{IsHolding};
 ghost use Rattle.nub.specs.Idle.{IsIdle};
-ghost use Rattle.nub.specs.Rest.{AtRest, Adds, IsOutside, IsSame};
+ghost use Rattle.nub.specs.Rest.{AtRest, Adds, IsOutside, IsSame, LeavesStint};
 ghost use Rattle.condition.specs.Waits.{resume_event};
 
 use event_count::{advance_quietly, advance_slowly, block, read_count};
@@ -40,6 +40,7 @@ pub fn signal<U: Uses, R: Wait>(rt: &R, p: &Package<U>, me: &mut Thread<U>, c: C
     ensures event { (left : List ℕ) × Adds [] (event me.old.number (signal_action c.0 left)) me.old me.new }
     ensures held { me.new.held ≡ me.old.held }
     ensures share { me.new.share ≡ me.old.share }
+    ensures stints { me.new.stints ≡ me.old.stints }
     ensures idle { (n : ℕ) (s : U.Share) → IsIdle p.now n s me.old → IsIdle p.now n s me.new }
     ensures holding { (n m : ℕ) (s : U.Share) (x : U.Value) → IsHolding p.now n m s x me.old → IsHolding p.now n m s x me.new }
 {
@@ -64,6 +65,7 @@ pub fn broadcast<U: Uses, R: Wait>(rt: &R, p: &Package<U>, me: &mut Thread<U>, c
     ensures event { Adds [] (event me.old.number (broadcast_action c.0 [])) me.old me.new }
     ensures held { me.new.held ≡ me.old.held }
     ensures share { me.new.share ≡ me.old.share }
+    ensures stints { me.new.stints ≡ me.old.stints }
     ensures idle { (n : ℕ) (s : U.Share) → IsIdle p.now n s me.old → IsIdle p.now n s me.new }
     ensures holding { (n m : ℕ) (s : U.Share) (x : U.Value) → IsHolding p.now n m s x me.old → IsHolding p.now n m s x me.new }
 {
@@ -109,6 +111,7 @@ pub fn wait<U: Uses, C: Change<U>, R: Wait>(
     ensures held { me.new.held ≡ slice_set me.old.held m.0 (Some result) }
     ensures share { (w : U.World) (s : U.Share) (x : U.Value) → me.old.world ≡ Some w → me.old.share ≡ Some s
         → Holds me.old m.0 x → me.new.share ≡ Some (C.after w m.0 me.old.number x value s) }
+    ensures stint { LeavesStint C.after m.0 value me.old me.new }
     ensures fits { (w : U.World) (s : U.Share) → me.new.world ≡ Some w → me.new.share ≡ Some s → U.fits w m.0 result me.new.number s }
     ensures holding { (n : ℕ) (s : U.Share) (x : U.Value) → IsHolding p.now n m.0 s x me.old
         → IsHolding p.now n m.0 (C.after p.now.world m.0 n x value s) result me.new

@@ -9,6 +9,7 @@ use Rattle.script_text.specs.declared.line.Line.{Line}
 use Rattle.exact_text.specs.declared.fault.TextFault.{TextFault}
 use Rattle.exact_text.specs.declared.fault.TextFault.TheVariants as fault
 use Rattle.script_text.specs.Runs.{AreEventsOf, total}
+use Rattle.script_text.specs.Visited.{AreVisited}
 use Rattle.command_endings.specs.declared.status.Status.{Status}
 use Rattle.command_endings.specs.declared.status.Status.TheVariants.{Memory}
 use Rattle.command_endings.specs.Changes.{Change, IsStill}
@@ -46,8 +47,8 @@ same_some o x y p q = cc
 
 -- what a run left is its trace
 pub is_trace : (k l : Layout) (xs : List Line) (h : List Event) (vs bytes : List ℕ) → k ≡ l → length vs ≡ l.mutexes → ((m : ℕ) → m < l.mutexes → get_or vs m 0 ≡ total xs m) → ReadsAs bytes k h (numbered 0 vs) → IsClosed l.version h
-    → ((t : ℕ) → t < l.threads → AreEventsOf l.version xs t (by_thread t h)) → IsTraceOf l xs bytes
-is_trace k l xs h vs bytes same size each reads closed own =
+    → ((t : ℕ) → t < l.threads → AreEventsOf l.version xs t (by_thread t h)) → AreVisited l xs h → IsTraceOf l xs bytes
+is_trace k l xs h vs bytes same size each reads closed own visited =
     let L : Layout → Type 0 = λ z. ReadsAs bytes z h (numbered 0 vs) in
     let V : List MutexValue → Type 0 = λ z. ReadsAs bytes l h z in
     let first : (m : ℕ) → m < l.mutexes → get_or vs m 0 ≡ total xs (0 + m) = λ m low. let z : m ≡ 0 + m = omega arith in each m low ∙ ap (λ i. total xs i) z in
@@ -55,6 +56,7 @@ is_trace k l xs h vs bytes same size each reads closed own =
       events = h;
       trace = record { reads = subst V (numbered_totals xs 0 l.mutexes vs size first) (subst L same reads); closed = closed };
       own = own;
+      visited = visited;
     }
 
 -- the statuses of a run

@@ -7,6 +7,7 @@ use Rattle.trace_core.specs.Text.{MutexValue}
 use Rattle.script_text.specs.declared.line.Line.{Line}
 use Rattle.exact_text.specs.declared.fault.TextFault.TheVariants as fault
 use Rattle.script_text.specs.Runs.{AreEventsOf, total}
+use Rattle.script_text.specs.Visited.{AreVisited}
 use Rattle.command_endings.specs.declared.status.Status.{Status}
 use Rattle.command_endings.specs.declared.status.Status.TheVariants.{Done, Usage, ReadFault, SinkFault, Stopped, Memory, Illegal, BadText, TooMany, TooLong}
 use Rattle.command_endings.specs.Changes.{Change, IsStill, Gets, GetsPrefix, Notes}
@@ -22,11 +23,14 @@ totals_from k zero xs = []
 totals_from k (suc n) xs = record { mutex = k; value = total xs k } ∷ totals_from (k + 1) n xs
 
 -- the trace of a run of these lines: a legal and closed list of events, of which each thread's are
--- those of its lines, in order, and in version two its End; each mutex has its sum
+-- those of its lines, in order, and in version two its End; each mutex has its sum. The numbers that
+-- the threads got and left with mutexes say how often an `until` waited: while its number was too
+-- small
 pub record IsTraceOf (l : Layout) (xs : List Line) (bytes : List ℕ) : Type 0 where
   pub events : List Event
   pub trace : IsClosedTrace l (totals_from 0 l.mutexes xs) events bytes
   pub own : (t : ℕ) → t < l.threads → AreEventsOf l.version xs t (by_thread t events)
+  pub visited : AreVisited l xs events
 
 -- the whole input is a script, and the bytes are the trace of a run of it
 pub record IsRunOf (input : Change) (bytes : List ℕ) : Type 0 where

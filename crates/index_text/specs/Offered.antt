@@ -1,5 +1,5 @@
 -- What the reader of an index text offers of it.
-use Rattle.std.specs.Prelude.{◌≡◌, ℕ, ◌-◌, List, [], ◌∷◌, ◌++◌, length, slice_get, OnOk, Result}
+use Rattle.std.specs.Prelude.{ℕ, ◌-◌, List, [], ◌∷◌, ◌++◌, length, slice_get, OnOk, Result}
 use Rattle.std.specs.declared.option.Option.{Option}
 use Rattle.exact_text.specs.declared.fault.TextFault.{TextFault}
 use Rattle.word_index.specs.Index.{Hit, Row}

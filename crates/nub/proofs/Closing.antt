@@ -104,6 +104,7 @@ module _ {T H W : Type 0} where
     size = length-replicate {A = Opt T} 64 None;
     none = λ m x h. none_held 64 m x h;
     share = refl;
+    stints = refl;
   }
 
   pub first_is : (p : Shape W) (begin : W → ℕ → H) (n : ℕ) (t : Known T H W) → n < p.layout.threads → p.layout.mutexes ≤ 64 → p.layout.version ≡ One → t ≡ first_known p.table_id One p.world begin n → IsFirst p begin n t

@@ -21,6 +21,7 @@ module _ {T H W : Type 0} where
     pub seen : k.seen ≡ []
     pub mine : k.mine ≡ []
     pub share : k.share ≡ Some (begin p.world n)
+    pub stints : k.stints ≡ []
 
   -- the thread n of the package was forked by the thread a: it has done nothing, has seen what a
   -- has seen, and has its first share
@@ -34,3 +35,4 @@ module _ {T H W : Type 0} where
     pub lacks_named : (m : ℕ) → m < p.layout.mutexes → get_elem? k.held m ≡ some None
     pub none : (m : ℕ) (x : T) → ¬ (get_elem? k.held m ≡ some (Some x))
     pub share : k.share ≡ begun begin n a.world
+    pub stints : k.stints ≡ []

@@ -1,5 +1,5 @@
 -- Threads with no open call, and what a call adds.
-use Rattle.std.specs.Prelude.{◌≡◌, ◌<◌, ℕ, Bool, true, false, List, [], ◌∷◌, ◌++◌, map, None}
+use Rattle.std.specs.Prelude.{◌≡◌, ◌<◌, ℕ, Bool, true, false, List, [], ◌∷◌, ◌++◌, map, Some, None}
 use Rattle.larch_actions.specs.declared.event.Event.{Event}
 use Rattle.larch_actions.specs.declared.event.Life.TheVariants.{Live}
 use Rattle.larch_actions.specs.Actions.{IsLegal, StartsWith, by_thread}
@@ -7,6 +7,7 @@ use Rattle.nub_rule.specs.declared.view.Child.TheVariants as child
 use Rattle.nub_rule.specs.declared.view.Pen.TheVariants.{No}
 use Rattle.nub_rule.specs.Known.{Known, Shape, Holds, IsOut}
 use Rattle.nub_rule.specs.Owed.{MustLook}
+use Rattle.nub_rule.specs.Plays.{stint}
 
 module _ {T H W : Type 0} where
   -- the thread lives, has no spin word and no pen, owes no thread its ready word, and is in no
@@ -62,3 +63,8 @@ module _ {T H W : Type 0} where
   pub record IsSame (a b : Known T H W) : Type 0 where
     pub number : b.number ≡ a.number
     pub world : b.world ≡ a.world
+
+  -- one stint with the mutex was entered: the thread left the value y
+  abbrev pub LeavesStint : (W → ℕ → ℕ → T → T → H → H) → ℕ → T → Known T H W → Known T H W → Type 0
+  LeavesStint after m y a b = (w : W) (s : H) (x : T) → a.world ≡ Some w → a.share ≡ Some s → Holds a m x
+      → b.stints ≡ a.stints ++ stint after w m a.number x y s ∷ []

@@ -48,6 +48,7 @@ pub fn fork_thread<U: Uses, R: Wait>(
     ensures event { Adds [] (fork_event me.old.number child.number) me.old me.new }
     ensures held { me.new.held ≡ me.old.held }
     ensures share { me.new.share ≡ me.old.share }
+    ensures stints { me.new.stints ≡ me.old.stints }
     ensures idle { (n : ℕ) (s : U.Share) → IsIdle p.now n s me.old → IsIdle p.now n s me.new }
     ensures holding { (n m : ℕ) (s : U.Share) (x : U.Value) → IsHolding p.now n m s x me.old → IsHolding p.now n m s x me.new }
     ensures child { IfOk result (λ t. IsBegun p.now U.begin child.number me.new t) }
@@ -81,6 +82,7 @@ pub fn end_thread<U: Uses, R: Wait>(rt: &R, p: &Package<U>, mut me: Thread<U>) -
     ensures event { Adds [] (ending me.number) me result }
     ensures same { IsSame me result }
     ensures share { result.share ≡ me.share }
+    ensures stints { result.stints ≡ me.stints }
     ensures over { IsOver result }
     ensures left { IsLeft p.now result }
 {
@@ -113,6 +115,7 @@ pub fn join_thread<U: Uses, R: Wait>(rt: &R, p: &Package<U>, me: &mut Thread<U>,
     ensures event { Adds [] (join_event me.old.number who.0) me.old me.new }
     ensures held { me.new.held ≡ me.old.held }
     ensures share { me.new.share ≡ me.old.share }
+    ensures stints { me.new.stints ≡ me.old.stints }
     ensures idle { (n : ℕ) (s : U.Share) → IsIdle p.now n s me.old → IsIdle p.now n s me.new }
     ensures holding { (n m : ℕ) (s : U.Share) (x : U.Value) → IsHolding p.now n m s x me.old → IsHolding p.now n m s x me.new }
 {
@@ -136,6 +139,7 @@ fn try_join<U: Uses, R: Wait>(rt: &R, p: &Package<U>, me: &mut Thread<U>, who: T
     ensures event { result ≡ true → Adds [] (join_event me.old.number who.0) me.old me.new }
     ensures held { me.new.held ≡ me.old.held }
     ensures share { me.new.share ≡ me.old.share }
+    ensures stints { me.new.stints ≡ me.old.stints }
 {
     let e = Event {
         thread: ThreadId(me.number()),

@@ -5,34 +5,34 @@ use Rattle.std.proofs.lemmas.List.{length-map, map-append}
 use Rattle.std.proofs.Math.Seq.{take-append_seam}
 use mathlib.Core.Option.{some, some-injective}
 use lib.ListN.{get_elem?}
-use Rattle.larch_actions.specs.declared.event.Event.{Event}
 use Rattle.larch_actions.specs.declared.event.Layout.{Layout}
 use Rattle.larch_actions.specs.declared.event.Version.TheVariants.{Two}
-use Rattle.larch_actions.specs.Actions.{by_thread}
 use Rattle.larch_actions.specs.Layout.{IsLawful}
 use Rattle.nub_rule.specs.Forks.{AreAll, in_order, with_number}
 use Rattle.nub_rule.specs.Items.{Each}
 use Rattle.nub_rule.specs.Known.{Shape}
 use Rattle.nub_rule.proofs.Each.{at_within, each-map}
 use Rattle.nub_rule.proofs.Ordering.{one-there, with-both, in-order-long}
-use Rattle.nub.specs.Ended.{IsFirst, IsWhole, KeepsLocks}
+use Rattle.nub.specs.Ended.{IsFirst, KeepsLocks}
 use Rattle.nub.specs.Forks.{IsLeft, IsRight}
 use Rattle.sum_uses.specs.declared.added.Added.{Added}
 use Rattle.sum_uses.specs.Sums.{AreSums}
 use Rattle.script_text.specs.declared.line.Line.{Line}
 use Rattle.script_text.specs.Operations.{none_held, MayFollow, none_forked, forked_after, is_born}
-use Rattle.script_text.specs.Runs.{AreCallsAndEnd, AreEventsOf, total}
+use Rattle.script_text.specs.Runs.{total}
+use Rattle.script_text.specs.Visits.{AreVisitsAndEnd}
 use Rattle.script_run.specs.declared.slots.Slot.{Slot}
 use Rattle.script_run.specs.declared.slots.Slot.TheVariants as slot
 use Rattle.script_run.specs.Placing.{occurs, numbers_of, unborn_slots, ended_slots, ArePlaced}
-use Rattle.script_run.specs.Playing.{Player}
+use Rattle.script_run.specs.Playing.{Player, visits_of}
 use Rattle.script_run.specs.Regions.{below, region}
 use Rattle.script_run.specs.Slots.{slot_number, IsWaiting, HasEnded, IsOver, AreReady, AreOver}
+use Rattle.script_run.proofs.Closing.{IsMade}
 use Rattle.script_run.proofs.Members.{single, nothing, each_both, each_first, each_second, mapped_at, length_with, rights_once, first_no_right, each_alike, in_order_at}
 use Rattle.script_run.proofs.Orders.{bit, bit_true, bit_false, bit_small, occurs_append, region_once, no_lines, past_unborn}
 use Rattle.script_run.proofs.Putting.{occurs_else}
 use Rattle.script_run.proofs.Sums.{HasSums, sums_total, elem_at, elem_is}
-use Rattle.script_run.proofs.Whole.{begins}
+use Rattle.script_run.proofs.Whole.{begins, no_links}
 
 abbrev IsRightOf : Shape (Prim.Unit {0}) → Player → Type 0
 IsRightOf p k = IsRight p (λ w n. let s : List Added = [] in s) k.number k
@@ -154,24 +154,24 @@ back_all p l xs ended others b n low =
 
 -- the thread t has come back: it was born, or it wasn't
 record IsBack (xs : List Line) (t : ℕ) (k : Player) : Type 0 where
-  pub events : AreEventsOf Two xs t k.mine
+  pub made : IsMade Two xs t k
   pub sums : HasSums xs t k
 
 ended_back : (p : Shape (Prim.Unit {0})) (xs : List Line) (t : ℕ) (k : Player) → k.number ≡ t → is_born (forked_after none_forked xs) t ≡ true → HasEnded p xs k → IsBack xs t k
 ended_back p xs t k own there e =
-    let P : ℕ → Type 0 = λ i. AreCallsAndEnd true xs i k.mine in
-    let Q : Bool → Type 0 = λ b. AreCallsAndEnd b xs t k.mine in
+    let P : ℕ → Type 0 = λ i. AreVisitsAndEnd true xs i k.mine (visits_of k.stints) in
+    let Q : Bool → Type 0 = λ b. AreVisitsAndEnd b xs t k.mine (visits_of k.stints) in
     let S : ℕ → Type 0 = λ i. HasSums xs i k in
     record {
-      events = subst Q (sym there) (subst P own (e.calls, e.are_calls, e.mine));
+      made = record { visits = subst Q (sym there) (subst P own (e.calls, e.visits, e.mine)); share = e.share; is_share = e.is_share; linked = e.linked };
       sums = subst S own (record { share = e.share; is_share = e.is_share; sums = e.sums });
     }
 
 never_back : (p : Shape (Prim.Unit {0})) (l : Layout) (xs : List Line) (t : ℕ) (k : Player) → l.version ≡ Two → MayFollow l none_held none_forked xs → is_born (forked_after none_forked xs) t ≡ false → IsRightOf p k → IsBack xs t k
 never_back p l xs t k two f not r =
-    let Q : Bool → Type 0 = λ b. AreCallsAndEnd b xs t k.mine in
+    let Q : Bool → Type 0 = λ b. AreVisitsAndEnd b xs t k.mine (visits_of k.stints) in
     record {
-      events = subst Q (sym not) r.mine;
+      made = record { visits = subst Q (sym not) (r.mine, ap visits_of r.stints); share = []; is_share = r.share; linked = no_links k.stints r.stints };
       sums = record {
         share = [];
         is_share = r.share;
@@ -218,15 +218,13 @@ in_order_back p l xs ended others two f b t k at =
     let P : Player → Type 0 = λ z. IsBack xs t z in
     subst P (some-injective there.0 k (sym there.2 ∙ at)) (thread_back p l xs ended others two f b t low there.0 there.1)
 
--- the part of each thread in the history is its own events
-pub events_of : (p : Shape (Prim.Unit {0})) (l k : Layout) (xs : List Line) (ended others threads : List Player) (h : List Event) → l.version ≡ Two → MayFollow l none_held none_forked xs → AreBack p l xs ended others
-    → threads ≡ in_order l.threads (ended ++ others) → IsWhole k threads h → (t : ℕ) → t < l.threads → AreEventsOf Two xs t (by_thread t h)
-events_of p l k xs ended others threads h two f b same whole t low =
-    let long = in-order-long l.threads (ended ++ others) (back_all p l xs ended others b) in
-    let there = elem_at threads t (omega (arith, ap length same, long)) in
-    let back = in_order_back p l xs ended others two f b t there.0 (ap (λ z. get_elem? z t) (sym same) ∙ there.1) in
-    let P : List Event → Type 0 = λ es. AreEventsOf Two xs t es in
-    subst P (sym (whole.own t there.0 there.1)) back.events
+-- each of these threads has made the events and the visits of its lines
+pub made_of : (p : Shape (Prim.Unit {0})) (l : Layout) (xs : List Line) (ended others threads : List Player) → l.version ≡ Two → MayFollow l none_held none_forked xs → AreBack p l xs ended others
+    → threads ≡ in_order l.threads (ended ++ others) → (length threads ≡ l.threads) × ((n : ℕ) (k : Player) → get_elem? threads n ≡ some k → IsMade Two xs n k)
+made_of p l xs ended others threads two f b same = (
+  ap length same ∙ in-order-long l.threads (ended ++ others) (back_all p l xs ended others b),
+  λ n k at. (in_order_back p l xs ended others two f b n k (ap (λ z. get_elem? z n) (sym same) ∙ at)).made,
+)
 
 -- the values are the totals
 pub totals_of : (p : Shape (Prim.Unit {0})) (l : Layout) (xs : List Line) (ended others threads : List Player) (values : List ℕ) → IsLawful l → l.version ≡ Two → MayFollow l none_held none_forked xs → AreBack p l xs ended others

@@ -4,6 +4,7 @@ pub mod Closing
 pub mod Crew
 pub mod Forking
 pub mod Gathering
+pub mod Hands
 pub mod Members
 pub mod Orders
 pub mod Parting

@@ -270,7 +270,7 @@ region_at p xs slots h read w n b is live =
 
 -- the thread that was taken out of it
 pub was_live : (p : Shape (Prim.Unit {0})) (xs : List Line) (at : ℕ) (slots : List Slot) (r : (t : ℕ) × AreReady p xs at t slots) (read : Slot) (w : Playing) (n : ℕ) (b : Bool) → read ≡ get_or slots (length slots - 1) read → read ≡ slot.Live w n b
-    → IsPlaying p r.0 (take at xs) [] w.numbers w.me
+    → IsPlaying p r.0 (take at xs) w.numbers w.me
 was_live p xs at slots r read w n b is live = (subst (λ (s : Slot). IsLive p xs at r.0 s) (sym (last_read p xs at r.0 slots r.1 read is).0 ∙ live) r.1.live).1
 
 pub fork_is : (xs : List Line) (i t : ℕ) (d : Line) (u v : ThreadId) → slice_get xs i ≡ Some (record { thread = record { 0 = t }; operation = Fork u }) → (get_or xs i d).operation ≡ Fork v → slice_get xs i ≡ Some (fork_line t v.0)

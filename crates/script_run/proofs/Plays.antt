@@ -17,10 +17,12 @@ use Rattle.script_text.specs.declared.table.Use.TheVariants.{Takes, Gives, Needs
 use Rattle.script_text.specs.Table.{use_of}
 use Rattle.script_text.specs.declared.line.Line.{Line}
 use Rattle.script_text.specs.Operations.{Holding, none_held, held_after, holding_with, holding_after, held_if}
-use Rattle.script_run.specs.Playing.{Player, HasNumber, IsPlaying, IsWide}
-use Rattle.script_text.specs.Runs.{AreCallsOf, IsRow, AreRows, lines_of, total, added_by}
+use Rattle.script_run.specs.Playing.{Player, AreLinked, HasHand, HasNumber, IsPlaying, IsWide, visits_of}
+use Rattle.script_text.specs.Runs.{IsRow, lines_of, total, added_by}
+use Rattle.script_text.specs.Visits.{AreLeft, Hand, Leaves, Visit, no_hand}
 use Rattle.script_text.proofs.Follow.{held_append}
-use Rattle.script_run.proofs.Rows.{other_line, events_own, total_own}
+use Rattle.script_run.proofs.Hands.{left_own}
+use Rattle.script_run.proofs.Rows.{other_line, total_own}
 
 -- a number below 64 may change
 pub wide_set : (held : List (Opt ℕ)) (m : ℕ) (v : Opt ℕ) → m < 64 → IsWide held → IsWide (set held m v)
@@ -38,25 +40,33 @@ module _ (p : Shape (Prim.Unit {0})) (t : ℕ) (xs : List Line) where
     pub held_size : IsWide b.held
 
   -- the thread after a line of its own
-  pub played : (x : Line) (numbers : List ℕ) (es a : List Event) (b : Player) (share : List Added) → x.thread.0 ≡ t → Stays b → length numbers ≡ 64 → AreCallsOf xs t es → IsRow t x.operation a → b.mine ≡ es ++ a → b.share ≡ Some share
+  pub played : (x : Line) (numbers : List ℕ) (es a : List Event) (vs v : List Visit) (start after : Hand) (b : Player) (share : List Added) → x.thread.0 ≡ t → Stays b → length numbers ≡ 64 → AreLeft t (lines_of t xs) es no_hand vs start
+      → IsRow t x.operation a → Leaves t x.operation a start v after → b.mine ≡ es ++ a → visits_of b.stints ≡ vs ++ v → HasHand b.held numbers after → b.share ≡ Some share → AreLinked [] b.stints share
       → ((m : ℕ) → m < 64 → HasNumber (holding_after (held_after none_held xs) t x.operation t m) b.held m (get_or numbers m 0) share (total (lines_of t xs) m + added_by x.operation m))
-      → IsPlaying p t (xs ++ x ∷ []) [] numbers b
-  played x numbers es a b share own s size events row mine is_share each = record {
-    rest = s.rest;
-    number = s.number;
-    world = s.world;
-    size = size;
-    held_size = s.held_size;
-    before = es ++ a;
-    events = events_own t xs x es a own events row;
-    mine = mine ∙ sym (append-nil (es ++ a));
-    share = share;
-    is_share = is_share;
-    each = λ m low.
-        let held : held_after none_held (xs ++ x ∷ []) t m ≡ holding_after (held_after none_held xs) t x.operation t m = ap (λ h. h t m) (held_append none_held xs (x ∷ [])) ∙ ap (λ u. holding_after (held_after none_held xs) u x.operation t m) own in
-        let P : Bool → Type 0 = λ c. HasNumber c b.held m (get_or numbers m 0) share (total (lines_of t xs) m + added_by x.operation m) in
-        let Q : ℕ → Type 0 = λ n. HasNumber (held_after none_held (xs ++ x ∷ []) t m) b.held m (get_or numbers m 0) share n in
-        subst Q (sym (total_own t xs x m own)) (subst P (sym held) (each m low));
+      → IsPlaying p t (xs ++ x ∷ []) numbers b
+  played x numbers es a vs v start after b share own s size are row left mine stints agrees is_share linked each = record {
+    hand = after;
+    line = record {
+      rest = s.rest;
+      number = s.number;
+      world = s.world;
+      size = size;
+      held_size = s.held_size;
+      before = es ++ a;
+      visits = vs ++ v;
+      are = left_own t xs x es a vs v no_hand start after own are row left;
+      mine = mine ∙ sym (append-nil (es ++ a));
+      stints = stints ∙ sym (append-nil (vs ++ v));
+      agrees = agrees;
+      share = share;
+      is_share = is_share;
+      linked = linked;
+      each = λ m low.
+          let held : held_after none_held (xs ++ x ∷ []) t m ≡ holding_after (held_after none_held xs) t x.operation t m = ap (λ h. h t m) (held_append none_held xs (x ∷ [])) ∙ ap (λ u. holding_after (held_after none_held xs) u x.operation t m) own in
+          let P : Bool → Type 0 = λ c. HasNumber c b.held m (get_or numbers m 0) share (total (lines_of t xs) m + added_by x.operation m) in
+          let Q : ℕ → Type 0 = λ n. HasNumber (held_after none_held (xs ++ x ∷ []) t m) b.held m (get_or numbers m 0) share n in
+          subst Q (sym (total_own t xs x m own)) (subst P (sym held) (each m low));
+    };
   }
 
   -- a line of another thread changes nothing
@@ -66,23 +76,30 @@ module _ (p : Shape (Prim.Unit {0})) (t : ℕ) (xs : List Line) where
   held_by_other u h m (Needs k) ne = refl
   held_by_other u h m Nothing ne = refl
 
-  pub passed : (x : Line) (numbers : List ℕ) (b : Player) → (x.thread.0 ≡ t → ⊥) → IsPlaying p t xs [] numbers b → IsPlaying p t (xs ++ x ∷ []) [] numbers b
+  pub passed : (x : Line) (numbers : List ℕ) (b : Player) → (x.thread.0 ≡ t → ⊥) → IsPlaying p t xs numbers b → IsPlaying p t (xs ++ x ∷ []) numbers b
   passed x numbers b other s = record {
-    rest = s.rest;
-    number = s.number;
-    world = s.world;
-    size = s.size;
-    held_size = s.held_size;
-    before = s.before;
-    events = (let P : List Line → Type 0 = λ ys. AreRows t ys s.before in subst P (sym (other_line t xs x other)) s.events);
-    mine = s.mine;
-    share = s.share;
-    is_share = s.is_share;
-    each = λ m low.
-        let held : held_after none_held (xs ++ x ∷ []) t m ≡ held_after none_held xs t m = ap (λ h. h t m) (held_append none_held xs (x ∷ [])) ∙ held_by_other x.thread.0 (held_after none_held xs) m (use_of x.operation) other in
-        let P : Bool → Type 0 = λ c. HasNumber c b.held m (get_or numbers m 0) s.share (total (lines_of t xs) m) in
-        let Q : List Line → Type 0 = λ ys. HasNumber (held_after none_held (xs ++ x ∷ []) t m) b.held m (get_or numbers m 0) s.share (total ys m) in
-        subst Q (sym (other_line t xs x other)) (subst P (sym held) (s.each m low));
+    hand = s.hand;
+    line = record {
+      rest = s.rest;
+      number = s.number;
+      world = s.world;
+      size = s.size;
+      held_size = s.held_size;
+      before = s.before;
+      visits = s.visits;
+      are = (let P : List Line → Type 0 = λ ys. AreLeft t ys s.before no_hand s.visits s.hand in subst P (sym (other_line t xs x other)) s.are);
+      mine = s.mine;
+      stints = s.stints;
+      agrees = s.agrees;
+      share = s.share;
+      is_share = s.is_share;
+      linked = s.linked;
+      each = λ m low.
+          let held : held_after none_held (xs ++ x ∷ []) t m ≡ held_after none_held xs t m = ap (λ h. h t m) (held_append none_held xs (x ∷ [])) ∙ held_by_other x.thread.0 (held_after none_held xs) m (use_of x.operation) other in
+          let P : Bool → Type 0 = λ c. HasNumber c b.held m (get_or numbers m 0) s.share (total (lines_of t xs) m) in
+          let Q : List Line → Type 0 = λ ys. HasNumber (held_after none_held (xs ++ x ∷ []) t m) b.held m (get_or numbers m 0) s.share (total ys m) in
+          subst Q (sym (other_line t xs x other)) (subst P (sym held) (s.each m low));
+    };
   }
 
 -- what a change of one entry leaves of the others

@@ -1,15 +1,14 @@
--- The events and the sums of one thread's lines.
-use Rattle.std.proofs.Common.{◌≡◌, ℕ, ◌+◌, ◌*◌, ◌≤◌, inl, inr, List, [], ◌∷◌, ◌++◌, length, refl, ap, sym, subst, ◌∙◌, append_assoc, append-nil, arith}
+-- The lines of one thread, and their sums.
+use Rattle.std.proofs.Common.{◌≡◌, ℕ, ◌+◌, ◌*◌, ◌≤◌, inl, inr, List, [], ◌∷◌, ◌++◌, length, refl, ap, ◌∙◌, append-nil, arith}
 use Rattle.std.proofs.lemmas.Bool.{eq-eqb, ne_eqb}
 use Rattle.std.proofs.lemmas.Bool.Decides.{eqb_tells}
 use Rattle.larch_actions.specs.declared.event.Layout.{Layout}
-use Rattle.larch_actions.specs.declared.event.Event.{Event}
 use Rattle.script_text.specs.declared.line.Operation.{Operation}
 use Rattle.script_text.specs.declared.line.Operation.TheVariants.{Add}
 use Rattle.script_text.specs.declared.line.Line.{Line}
 use Rattle.script_text.specs.Operations.{Holding, Forked, IsNamed, holding_after, forked_with, MayFollow}
 use Rattle.script_text.specs.Table.{fate_of}
-use Rattle.script_text.specs.Runs.{AreCallsOf, IsRow, AreRows, lines_of, added_by, total}
+use Rattle.script_text.specs.Runs.{lines_of, added_by, total}
 
 pub lines_append : (t : ℕ) (xs ys : List Line) → lines_of t (xs ++ ys) ≡ lines_of t xs ++ lines_of t ys
 lines_append t [] ys = refl
@@ -24,16 +23,6 @@ own_line t xs x e = lines_append t xs (x ∷ []) ∙ ap (λ zs. lines_of t xs ++
 
 pub other_line : (t : ℕ) (xs : List Line) (x : Line) → (x.thread.0 ≡ t → ⊥) → lines_of t (xs ++ x ∷ []) ≡ lines_of t xs
 other_line t xs x e = lines_append t xs (x ∷ []) ∙ ap (λ zs. lines_of t xs ++ zs) (rw (ne_eqb x.thread.0 t e) refl) ∙ append-nil (lines_of t xs)
-
-rows_snoc : (t : ℕ) (ys : List Line) (y : Line) (es a : List Event) → AreRows t ys es → IsRow t y.operation a → AreRows t (ys ++ y ∷ []) (es ++ a)
-rows_snoc t [] y es a r row = (a, [], row, refl, ap (λ l. l ++ a) r ∙ sym (append-nil a))
-rows_snoc t (x ∷ ys) y es a r row =
-    (r.0, r.1 ++ a, r.2, rows_snoc t ys y r.1 a r.3 row, ap (λ l. l ++ a) r.4 ∙ append_assoc r.0 r.1 a)
-
-pub events_own : (t : ℕ) (xs : List Line) (x : Line) (es a : List Event) → x.thread.0 ≡ t → AreCallsOf xs t es → IsRow t x.operation a → AreCallsOf (xs ++ x ∷ []) t (es ++ a)
-events_own t xs x es a e r row =
-    let P : List Line → Type 0 = λ ys. AreRows t ys (es ++ a) in
-    subst P (sym (own_line t xs x e)) (rows_snoc t (lines_of t xs) x es a r row)
 
 total_snoc : (ys : List Line) (y : Line) (m : ℕ) → total (ys ++ y ∷ []) m ≡ total ys m + added_by y.operation m
 total_snoc [] y m = omega arith

@@ -1,5 +1,5 @@
 -- The lines up to a place, and the whole of one thread's part.
-use Rattle.std.proofs.Common.{◌≡◌, ℕ, ◌<◌, inl, inr, List, [], length, get_or, take, drop, append-nil, refl, sym, subst, ◌∙◌, true, false, Bool, Some, None, Option as Opt, arith}
+use Rattle.std.proofs.Common.{◌≡◌, ℕ, ◌<◌, inl, inr, List, [], length, get_or, take, drop, append-nil, refl, ap, sym, subst, ◌∙◌, true, false, Bool, Some, None, Option as Opt, arith}
 use Rattle.std.proofs.lemmas.List.{take-append-drop}
 use Rattle.std.proofs.Math.Seq.{drop-cons}
 use Rattle.std.proofs.lemmas.Bool.{cases_lt}
@@ -8,23 +8,25 @@ use lib.ListN.{get_elem?}
 use Rattle.larch_actions.specs.declared.event.Event.{Event}
 use Rattle.larch_actions.specs.declared.event.Layout.{Layout}
 use Rattle.nub_rule.specs.Known.{Shape}
+use Rattle.nub_rule.specs.declared.view.Stint.{Stint}
 use Rattle.nub.specs.Ended.{IsFirst}
 use Rattle.sum_uses.specs.declared.added.Added.{Added}
 use Rattle.sum_uses.specs.Sums.{added}
 use Rattle.script_text.specs.declared.line.Line.{Line}
 use Rattle.script_text.specs.Operations.{none_held, held_after, MayCome, MayFollow, none_forked, forked_after}
-use Rattle.script_run.specs.Playing.{Player, HasNumber, IsPlaying, IsPlayed, IsWide}
-use Rattle.script_text.specs.Runs.{AreCallsOf, lines_of, total}
+use Rattle.script_run.specs.Playing.{Player, AreLinked, HasNumber, IsPlaying, IsPlayed, IsWide, visits_of}
+use Rattle.script_text.specs.Runs.{lines_of, total}
+use Rattle.script_text.specs.Visits.{AreLeft, Visit, no_hand}
 use Rattle.script_text.specs.Text.{IsScript}
 use Rattle.script_text.proofs.Follow.{follow_split}
 
 -- the same under equal names
-pub moved : (p : Shape (Prim.Unit {0})) (t u : ℕ) (xs ys : List Line) (n k : List ℕ) (a b : Player) → t ≡ u → xs ≡ ys → k ≡ n → b ≡ a → IsPlaying p t xs [] n a → IsPlaying p u ys [] k b
+pub moved : (p : Shape (Prim.Unit {0})) (t u : ℕ) (xs ys : List Line) (n k : List ℕ) (a b : Player) → t ≡ u → xs ≡ ys → k ≡ n → b ≡ a → IsPlaying p t xs n a → IsPlaying p u ys k b
 moved p t u xs ys n k a b et ex en eb s =
-    let T : ℕ → Type 0 = λ v. IsPlaying p v ys [] k b in
-    let X : List Line → Type 0 = λ zs. IsPlaying p t zs [] k b in
-    let N : List ℕ → Type 0 = λ m. IsPlaying p t xs [] m b in
-    let B : Player → Type 0 = λ c. IsPlaying p t xs [] n c in
+    let T : ℕ → Type 0 = λ v. IsPlaying p v ys k b in
+    let X : List Line → Type 0 = λ zs. IsPlaying p t zs k b in
+    let N : List ℕ → Type 0 = λ m. IsPlaying p t xs m b in
+    let B : Player → Type 0 = λ c. IsPlaying p t xs n c in
     subst T et (subst X ex (subst N (sym en) (subst B (sym eb) s)))
 
 pub comes_at : (l : Layout) (xs : List Line) (i : ℕ) (d : Line) → MayFollow l none_held none_forked xs → i < length xs → MayFollow l none_held none_forked (take i xs) × MayCome l (held_after none_held (take i xs)) (forked_after none_forked (take i xs)) (get_or xs i d)
@@ -34,19 +36,30 @@ comes_at l xs i d f lt =
     let Q : List Line → Type 0 = λ ys. MayFollow l (held_after none_held (take i xs)) (forked_after none_forked (take i xs)) ys in
     (s.0, (subst Q (drop-cons xs i d lt) s.1).0)
 
-pub begins : (p : Shape (Prim.Unit {0})) (t : ℕ) (numbers : List ℕ) (me : Player) → length numbers ≡ 64 → IsFirst p (λ w n. let s : List Added = [] in s) t me → IsPlaying p t [] [] numbers me
+-- no stint leaves the share
+pub no_links : (ss : List (Stint ℕ (List Added))) → ss ≡ [] → AreLinked [] ss []
+no_links ss none = let P : List (Stint ℕ (List Added)) → Type 0 = λ l. AreLinked [] l [] in subst P (sym none) refl
+
+pub begins : (p : Shape (Prim.Unit {0})) (t : ℕ) (numbers : List ℕ) (me : Player) → length numbers ≡ 64 → IsFirst p (λ w n. let s : List Added = [] in s) t me → IsPlaying p t [] numbers me
 begins p t numbers me size f = record {
-  rest = f.rest;
-  number = f.number;
-  world = f.world;
-  size = size;
-  held_size = record { room = omega (arith, f.size); none = λ m x high at. f.none m x at };
-  before = [];
-  events = refl;
-  mine = f.mine;
-  share = [];
-  is_share = f.share;
-  each = λ m low. (f.lacks m low, refl);
+  hand = no_hand;
+  line = record {
+    rest = f.rest;
+    number = f.number;
+    world = f.world;
+    size = size;
+    held_size = record { room = omega (arith, f.size); none = λ m x high at. f.none m x at };
+    before = [];
+    visits = [];
+    are = (refl, refl, refl);
+    mine = f.mine;
+    stints = ap visits_of f.stints;
+    agrees = λ m x at. absurd (f.none m x at);
+    share = [];
+    is_share = f.share;
+    linked = no_links me.stints f.stints;
+    each = λ m low. (f.lacks m low, refl);
+  };
 }
 
 -- what has no number is not held
@@ -61,7 +74,7 @@ none_some o x e f = let h : (let n : Opt ℕ = None in n) ≡ Some x = sym e ∙
 below_wide : (held : List (Opt ℕ)) (m x : ℕ) → IsWide held → get_elem? held m ≡ some (Some x) → m < 64
 below_wide held m x w at = elim (cases_lt m 64) [ inl p ↦ p | inr p ↦ absurd (w.none m x p at) ]
 
-pub ends : (p : Shape (Prim.Unit {0})) (l : Layout) (t : ℕ) (xs : List Line) (numbers : List ℕ) (me : Player) → IsScript l xs → IsPlaying p t xs [] numbers me → IsPlayed p xs t me
+pub ends : (p : Shape (Prim.Unit {0})) (l : Layout) (t : ℕ) (xs : List Line) (numbers : List ℕ) (me : Player) → IsScript l xs → IsPlaying p t xs numbers me → IsPlayed p xs t me
 ends p l t xs numbers me script s =
     let at : (m : ℕ) → m < 64 → (get_elem? me.held m ≡ some None) × (added m s.share ≡ total (lines_of t xs) m) = λ m low. lacks_value (held_after none_held xs t m) me.held m (get_or numbers m 0) s.share (total (lines_of t xs) m) (script.free t m) (s.each m low) in
     record {
@@ -73,8 +86,14 @@ ends p l t xs numbers me script s =
             let none = at m low in
             none_some (Some x) x (some-injective (Some x) None (sym e ∙ none.0)) refl;
       };
-      events = (let P : List Event → Type 0 = λ l. AreCallsOf xs t l in subst P (sym (s.mine ∙ append-nil s.before)) s.events);
+      visits = (
+        s.hand,
+        (let P : List Event → Type 0 = λ l. AreLeft t (lines_of t xs) l no_hand (visits_of me.stints) s.hand in
+            let V : List Visit → Type 0 = λ vs. AreLeft t (lines_of t xs) s.before no_hand vs s.hand in
+            subst P (sym (s.mine ∙ append-nil s.before)) (subst V (sym (s.stints ∙ append-nil s.visits)) s.are)),
+      );
       share = s.share;
       is_share = s.is_share;
+      linked = s.linked;
       sums = λ m low. (at m low).1;
     }

@@ -12,10 +12,11 @@ use Rattle.sum_uses.specs.declared.added.Added.{Added}
 use Rattle.sum_uses.specs.Sums.{added}
 use Rattle.script_text.specs.declared.line.Line.{Line}
 use Rattle.script_text.specs.Text.{IsScript}
-use Rattle.script_text.specs.Runs.{AreCallsOf, event, lines_of, total}
+use Rattle.script_text.specs.Runs.{event, lines_of, total}
+use Rattle.script_text.specs.Visits.{AreVisitsOf}
 use Rattle.script_run.specs.declared.slots.Slot.{Slot}
 use Rattle.script_run.specs.declared.slots.Slot.TheVariants as slot
-use Rattle.script_run.specs.Playing.{Player, IsPlaying}
+use Rattle.script_run.specs.Playing.{Player, AreLinked, IsPlaying, visits_of}
 use Rattle.script_run.specs.Regions.{below, region}
 
 -- the lists, one after the other
@@ -40,17 +41,18 @@ IsWaiting p _ = ⊥
 
 -- the thread t, which has played its lines before the line i, and goes on there
 abbrev pub IsLive : Shape (Prim.Unit {0}) → List Line → ℕ → ℕ → Slot → Type 0
-IsLive p xs i t (slot.Live w next b) = (next ≡ i) × IsPlaying p t (take i xs) [] w.numbers w.me
+IsLive p xs i t (slot.Live w next b) = (next ≡ i) × IsPlaying p t (take i xs) w.numbers w.me
 IsLive p xs i t _ = ⊥
 
 -- the thread has played all its lines of these, and then ended
 pub record HasEnded (p : Shape (Prim.Unit {0})) (xs : List Line) (k : Player) : Type 0 where
   pub left : IsLeft p k
   pub calls : List Event
-  pub are_calls : AreCallsOf xs k.number calls
+  pub visits : AreVisitsOf xs k.number calls (visits_of k.stints)
   pub mine : k.mine ≡ calls ++ event k.number action.End ∷ []
   pub share : List Added
   pub is_share : k.share ≡ Some share
+  pub linked : AreLinked [] k.stints share
   pub sums : (m : ℕ) → m < 64 → added m share ≡ total (lines_of k.number xs) m
 
 abbrev pub IsOver : Shape (Prim.Unit {0}) → List Line → Slot → Type 0
@@ -96,7 +98,7 @@ pub record MayPlay (p : Shape (Prim.Unit {0})) (xs : List Line) (slots : List Sl
 
 -- from the line i on, the thread t has played its lines before the line k, which fork none
 pub record IsAhead (p : Shape (Prim.Unit {0})) (xs : List Line) (t i k : ℕ) (numbers : List ℕ) (me : Player) : Type 0 where
-  pub playing : IsPlaying p t (take k xs) [] numbers me
+  pub playing : IsPlaying p t (take k xs) numbers me
   pub none : below (drop i xs) t ≡ below (drop k xs) t
 
 -- the thread in the last slot has forked another, whose region is the first `width` slots, and both

@@ -9,6 +9,7 @@ ghost use Rattle.larch_actions.specs.Actions.{IsClosed, by_thread};
 ghost use Rattle.script_text.specs.Text.{IsScript};
 ghost use Rattle.script_text.specs.Runs.{AreEventsOf, total};
 ghost use Rattle.script_run.specs.Slots.{AreRegions, MayPlay, AreOver, slot_number};
+ghost use Rattle.script_text.specs.Visited.{AreVisited};
 
 use crate::cut::cut_in_two;
 use crate::places::{ends, place};
@@ -85,6 +86,7 @@ pub fn run_forked<R: Threads + Wait + Sync, G: BeforeStart>(
     ensures trace { IfOk result (λ c. (h : List Event) × (c.trace ≡ Some h) × IsClosed script.now.layout.version h
         × AllByRecursion (HasNames script.now.layout) h × ((t : ℕ) → t < script.now.layout.threads
         → AreEventsOf script.now.layout.version script.now.lines t (by_thread t h))) }
+    ensures visits { IfOk result (λ c. (h : List Event) × (c.trace ≡ Some h) × AreVisited script.now.layout script.now.lines h) }
     ensures count { IfOk result (λ c. length c.values ≡ script.now.layout.mutexes) }
     ensures values { IfOk result (λ c. (m : ℕ) → m < script.now.layout.mutexes → slice_index c.values m ≡ total script.now.lines m) }
 {

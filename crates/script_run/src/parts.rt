@@ -33,9 +33,9 @@ pub fn play_to_fork<R: Wait>(
     requires script { IsScript pkg.now.layout lines.now }
     requires few { length lines.now < 100000 }
     requires at { at ≤ length lines.now }
-    requires playing { IsPlaying pkg.now playing.me.number (take at lines.now) [] playing.numbers playing.me }
+    requires playing { IsPlaying pkg.now playing.me.number (take at lines.now) playing.numbers playing.me }
     ensures within { (at ≤ result.1) × (result.1 ≤ length lines.now) }
-    ensures playing { IsPlaying pkg.now playing.me.number (take result.1 lines.now) [] result.0.numbers result.0.me }
+    ensures playing { IsPlaying pkg.now playing.me.number (take result.1 lines.now) result.0.numbers result.0.me }
     ensures none { below (drop at lines.now) playing.me.number ≡ below (drop result.1 lines.now) playing.me.number }
     ensures fork { result.1 < length lines.now
         → (u : ThreadId)
@@ -71,12 +71,12 @@ pub fn start<R: Wait>(
     requires script { IsScript pkg.now.layout lines.now }
     requires version { pkg.now.layout.version ≡ Two }
     requires few { length lines.now < 100000 }
-    requires parent { IsPlaying pkg.now parent.me.number (take at lines.now) [] parent.numbers parent.me }
+    requires parent { IsPlaying pkg.now parent.me.number (take at lines.now) parent.numbers parent.me }
     requires right { IsRight pkg.now (λ w n. let s : List Added = [] in s) right.number right }
     requires fork { slice_get lines.now at
         ≡ Some (record { thread = record { 0 = parent.me.number }; operation = Fork (record { 0 = right.number }) }) }
-    ensures parent { IsPlaying pkg.now parent.me.number (take (at + 1) lines.now) [] result.0.numbers result.0.me }
-    ensures child { IsPlaying pkg.now right.number (take (at + 1) lines.now) [] result.1.numbers result.1.me }
+    ensures parent { IsPlaying pkg.now parent.me.number (take (at + 1) lines.now) result.0.numbers result.0.me }
+    ensures child { IsPlaying pkg.now right.number (take (at + 1) lines.now) result.1.numbers result.1.me }
 {
     let Playing { mut me, numbers } = parent;
     let who = right.number();
@@ -104,7 +104,7 @@ pub fn end<R: Wait>(
 ) -> Ended<SumUses>
     requires script { IsScript pkg.now.layout lines.now }
     requires version { pkg.now.layout.version ≡ Two }
-    requires playing { IsPlaying pkg.now playing.me.number lines.now [] playing.numbers playing.me }
+    requires playing { IsPlaying pkg.now playing.me.number lines.now playing.numbers playing.me }
     ensures number { result.number ≡ playing.me.number }
     ensures ended { HasEnded pkg.now lines.now result }
 {

@@ -34,13 +34,13 @@ pub fn play_line<R: Wait>(
     requires lawful { IsLawful pkg.now.layout }
     requires no_fork { (u : ThreadId) → line.now.operation ≢ Fork u }
     requires own { line.now.thread.0 ≡ me.old.number }
-    requires playing { (xs : List Line) × IsPlaying pkg.now me.old.number xs [] numbers.old me.old
+    requires playing { (xs : List Line) × IsPlaying pkg.now me.old.number xs numbers.old me.old
         × MayCome pkg.now.layout (held_after none_held xs) (forked_after none_forked xs) line.now
         × MayFollow pkg.now.layout none_held none_forked xs × (length xs < 99999) }
-    ensures { (xs : List Line) → IsPlaying pkg.now me.old.number xs [] numbers.old me.old
+    ensures { (xs : List Line) → IsPlaying pkg.now me.old.number xs numbers.old me.old
         → MayCome pkg.now.layout (held_after none_held xs) (forked_after none_forked xs) line.now
         → MayFollow pkg.now.layout none_held none_forked xs → length xs < 99999
-        → IsPlaying pkg.now me.old.number (xs ++ line.now ∷ []) [] numbers.new me.new }
+        → IsPlaying pkg.now me.old.number (xs ++ line.now ∷ []) numbers.new me.new }
 {
     match &line.operation {
         Operation::Acquire { mutex } => {

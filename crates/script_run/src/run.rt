@@ -9,7 +9,8 @@ ghost use Rattle.nub_rule.specs.Items.{Each};
 ghost use Rattle.nub.specs.Ended.{IsFirst};
 ghost use Rattle.script_text.specs.Text.{IsScript};
 ghost use Rattle.script_text.specs.Runs.{AreEventsOf, total};
-ghost use Rattle.script_run.specs.Playing.{IsPlayed};
+ghost use Rattle.script_run.specs.Playing.{IsPlayed, StayFirst};
+ghost use Rattle.script_text.specs.Visited.{AreVisited};
 
 use crate::forked::run_forked;
 use crate::play::play;
@@ -77,7 +78,8 @@ fn with_room(
     lines: &[Line],
 ) -> Result<Vec<Thread<SumUses>>, AllocError>
     requires { length lines.now < 100000 }
-    ensures { IfOk result (λ ts. ts.items ≡ threads.items) }
+    ensures count { IfOk result (λ ts. length ts.items ≡ length threads.items) }
+    ensures threads { IfOk result (λ ts. StayFirst threads.items ts.items) }
 {
     for at in 0..threads.len() {
         let further = own_events(lines, threads[at].number());
@@ -141,6 +143,7 @@ pub fn run_script<R: Threads + Wait + Sync, G: BeforeStart>(
     ensures trace { IfOk result (λ c. (h : List Event) × (c.trace ≡ Some h) × IsClosed script.now.layout.version h
         × AllByRecursion (HasNames script.now.layout) h × ((t : ℕ) → t < script.now.layout.threads
         → AreEventsOf script.now.layout.version script.now.lines t (by_thread t h))) }
+    ensures visits { IfOk result (λ c. (h : List Event) × (c.trace ≡ Some h) × AreVisited script.now.layout script.now.lines h) }
     ensures count { IfOk result (λ c. length c.values ≡ script.now.layout.mutexes) }
     ensures values { IfOk result (λ c. (m : ℕ) → m < script.now.layout.mutexes → slice_index c.values m ≡ total script.now.lines m) }
 {
@@ -162,6 +165,7 @@ fn run_all<R: Threads + Wait + Sync, G: BeforeStart>(
     ensures trace { IfOk result (λ c. (h : List Event) × (c.trace ≡ Some h) × IsClosed script.now.layout.version h
         × AllByRecursion (HasNames script.now.layout) h × ((t : ℕ) → t < script.now.layout.threads
         → AreEventsOf script.now.layout.version script.now.lines t (by_thread t h))) }
+    ensures visits { IfOk result (λ c. (h : List Event) × (c.trace ≡ Some h) × AreVisited script.now.layout script.now.lines h) }
     ensures count { IfOk result (λ c. length c.values ≡ script.now.layout.mutexes) }
     ensures values { IfOk result (λ c. (m : ℕ) → m < script.now.layout.mutexes → slice_index c.values m ≡ total script.now.lines m) }
 {

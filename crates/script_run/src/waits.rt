@@ -1,12 +1,13 @@
 //! The waits of a line: the thread holds the mutex before and afterwards, and gets its number
 //! again.
-ghost use Rattle.std.specs.Prelude.{◌≡◌, ◌<◌, ◌≤◌, ◌++◌, ℕ, [], List, slice_index};
+ghost use Rattle.std.specs.Prelude.{◌≡◌, ◌<◌, ◌≤◌, ◌∷◌, ◌++◌, [], List, slice_index};
 ghost use Rattle.larch_actions.specs.Layout.{IsLawful};
 ghost use Rattle.larch_actions.specs.declared.event.Event.{Event};
 ghost use Rattle.alert_wait.specs.declared.outcome.Outcome.TheVariants.{Returned};
 ghost use Rattle.script_text.specs.declared.line.Line.{Line};
-ghost use Rattle.script_text.specs.Runs.{returned, times, waited};
-ghost use Rattle.script_run.specs.Playing.{IsPlaying, HasMutex, alertable, given_up};
+ghost use Rattle.script_text.specs.Runs.{times, waited};
+ghost use Rattle.script_text.specs.Visits.{Hand, Visit, gets, leaves};
+ghost use Rattle.script_run.specs.Playing.{EndAs, HasMutex, HasWaited, IsInLine, alertable};
 
 use alert_wait::{Outcome, alert_wait};
 use condition::wait;
@@ -27,11 +28,12 @@ pub fn wait_once<R: Wait>(
 )
     requires lawful { IsLawful pkg.now.layout }
     requires named { (mutex.0 < pkg.now.layout.mutexes) × (cond.0 < pkg.now.layout.conditions) }
-    requires playing { (xs : List Line) × (es : List Event) × IsPlaying pkg.now me.old.number xs es numbers.old me.old
-        × HasMutex pkg.now.layout me.old.number xs mutex.0 }
-    ensures { (xs : List Line) (es : List Event) → IsPlaying pkg.now me.old.number xs es numbers.old me.old
-        → HasMutex pkg.now.layout me.old.number xs mutex.0
-        → IsPlaying pkg.now me.old.number xs (es ++ waited me.old.number mutex cond) numbers.new me.new }
+    requires playing { (xs : List Line) × (es : List Event) × (vs : List Visit) × (start : Hand) × (hand : Hand)
+        × IsInLine pkg.now me.old.number xs es vs start hand numbers.old me.old × HasMutex pkg.now.layout me.old.number xs mutex.0 }
+    ensures { (xs : List Line) (es : List Event) (vs : List Visit) (start hand : Hand)
+        → IsInLine pkg.now me.old.number xs es vs start hand numbers.old me.old → HasMutex pkg.now.layout me.old.number xs mutex.0
+        → IsInLine pkg.now me.old.number xs (es ++ waited me.old.number mutex cond) (vs ++ leaves me.old.number mutex hand ∷ []) start
+        (gets mutex (slice_index numbers.new mutex.0) hand) numbers.new me.new }
 {
     let at = mutex.0 as usize;
     let number = numbers[at];
@@ -50,11 +52,12 @@ pub fn alert_wait_once<R: Wait>(
 ) -> Outcome
     requires lawful { IsLawful pkg.now.layout }
     requires named { (mutex.0 < pkg.now.layout.mutexes) × (cond.0 < pkg.now.layout.conditions) }
-    requires playing { (xs : List Line) × (es : List Event) × IsPlaying pkg.now me.old.number xs es numbers.old me.old
-        × HasMutex pkg.now.layout me.old.number xs mutex.0 }
-    ensures { (xs : List Line) (es : List Event) → IsPlaying pkg.now me.old.number xs es numbers.old me.old
-        → HasMutex pkg.now.layout me.old.number xs mutex.0
-        → IsPlaying pkg.now me.old.number xs (es ++ alertable result me.old.number mutex cond) numbers.new me.new }
+    requires playing { (xs : List Line) × (es : List Event) × (vs : List Visit) × (start : Hand) × (hand : Hand)
+        × IsInLine pkg.now me.old.number xs es vs start hand numbers.old me.old × HasMutex pkg.now.layout me.old.number xs mutex.0 }
+    ensures { (xs : List Line) (es : List Event) (vs : List Visit) (start hand : Hand)
+        → IsInLine pkg.now me.old.number xs es vs start hand numbers.old me.old → HasMutex pkg.now.layout me.old.number xs mutex.0
+        → IsInLine pkg.now me.old.number xs (es ++ alertable result me.old.number mutex cond)
+        (vs ++ leaves me.old.number mutex hand ∷ []) start (gets mutex (slice_index numbers.new mutex.0) hand) numbers.new me.new }
 {
     let at = mutex.0 as usize;
     let number = numbers[at];
@@ -76,11 +79,12 @@ pub fn until<R: Wait>(
 )
     requires lawful { IsLawful pkg.now.layout }
     requires named { (mutex.0 < pkg.now.layout.mutexes) × (cond.0 < pkg.now.layout.conditions) }
-    requires playing { (xs : List Line) × IsPlaying pkg.now me.old.number xs [] numbers.old me.old
+    requires playing { (xs : List Line) × (hand : Hand) × IsInLine pkg.now me.old.number xs [] [] hand hand numbers.old me.old
         × HasMutex pkg.now.layout me.old.number xs mutex.0 }
-    ensures played { (xs : List Line) → IsPlaying pkg.now me.old.number xs [] numbers.old me.old
+    ensures played { (xs : List Line) (hand : Hand) → IsInLine pkg.now me.old.number xs [] [] hand hand numbers.old me.old
         → HasMutex pkg.now.layout me.old.number xs mutex.0
-        → (k : ℕ) × IsPlaying pkg.now me.old.number xs (times k (waited me.old.number mutex cond)) numbers.new me.new }
+        → HasWaited pkg.now me.old.number xs (λ k es. es ≡ times k (waited me.old.number mutex cond)) awaited mutex hand
+        numbers.new me.new }
     ensures enough { awaited ≤ slice_index numbers.new mutex.0 }
     ensures no_wait { awaited ≤ slice_index numbers.old mutex.0 → (numbers.new ≡ numbers.old) × (me.new ≡ me.old) }
 {
@@ -106,12 +110,11 @@ pub fn alert_until<R: Wait>(
 ) -> Outcome
     requires lawful { IsLawful pkg.now.layout }
     requires named { (mutex.0 < pkg.now.layout.mutexes) × (cond.0 < pkg.now.layout.conditions) }
-    requires playing { (xs : List Line) × IsPlaying pkg.now me.old.number xs [] numbers.old me.old
+    requires playing { (xs : List Line) × (hand : Hand) × IsInLine pkg.now me.old.number xs [] [] hand hand numbers.old me.old
         × HasMutex pkg.now.layout me.old.number xs mutex.0 }
-    ensures played { (xs : List Line) → IsPlaying pkg.now me.old.number xs [] numbers.old me.old
+    ensures played { (xs : List Line) (hand : Hand) → IsInLine pkg.now me.old.number xs [] [] hand hand numbers.old me.old
         → HasMutex pkg.now.layout me.old.number xs mutex.0
-        → (k : ℕ) × IsPlaying pkg.now me.old.number xs (times k (returned me.old.number mutex cond)
-        ++ given_up result me.old.number mutex cond) numbers.new me.new }
+        → HasWaited pkg.now me.old.number xs (EndAs result me.old.number mutex cond) awaited mutex hand numbers.new me.new }
     ensures enough { result ≡ Returned → awaited ≤ slice_index numbers.new mutex.0 }
     ensures no_wait { awaited ≤ slice_index numbers.old mutex.0 → (numbers.new ≡ numbers.old) × (me.new ≡ me.old) }
 {

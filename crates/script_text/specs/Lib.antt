@@ -10,3 +10,5 @@ pub mod Held
 pub mod Drafts
 pub mod Finished
 pub mod Runs
+pub mod Visits
+pub mod Visited

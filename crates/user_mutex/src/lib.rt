@@ -11,7 +11,7 @@ ghost use lib.ListN.{get_elem?};
 ghost use Rattle.std.specs.Fn.{FnOnceReturnsAtMut};
 ghost use Rattle.nub_rule.specs.Known.{Holds};
 ghost use Rattle.nub_rule.specs.Plays.{acquire_event, release_event};
-ghost use Rattle.nub.specs.Rest.{AtRest, Adds, IsSame};
+ghost use Rattle.nub.specs.Rest.{AtRest, Adds, IsSame, LeavesStint};
 ghost use Rattle.nub.specs.Holding.{IsHolding};
 ghost use Rattle.nub.specs.Idle.{IsIdle};
 
@@ -41,6 +41,7 @@ pub fn acquire<U: Uses, R: Wait>(rt: &R, p: &Package<U>, me: &mut Thread<U>, m: 
     ensures holds { Holds me.new m.0 result }
     ensures held { me.new.held ≡ slice_set me.old.held m.0 (Some result) }
     ensures share { me.new.share ≡ me.old.share }
+    ensures stints { me.new.stints ≡ me.old.stints }
     ensures fits { (w : U.World) (s : U.Share) → me.old.world ≡ Some w → me.old.share ≡ Some s → U.fits w m.0 result me.old.number s }
     ensures holding { (n : ℕ) (s : U.Share) → IsIdle p.now n s me.old
         → IsHolding p.now n m.0 s result me.new × U.fits p.now.world m.0 result n s }
@@ -82,6 +83,7 @@ pub fn release<U: Uses, C: Change<U>, R: Wait>(
     ensures held { me.new.held ≡ slice_set me.old.held m.0 None }
     ensures share { (w : U.World) (s : U.Share) (x : U.Value) → me.old.world ≡ Some w → me.old.share ≡ Some s
         → Holds me.old m.0 x → me.new.share ≡ Some (C.after w m.0 me.old.number x value s) }
+    ensures stint { LeavesStint C.after m.0 value me.old me.new }
     ensures idle { (n : ℕ) (s : U.Share) (x : U.Value) → IsHolding p.now n m.0 s x me.old
         → IsIdle p.now n (C.after p.now.world m.0 n x value s) me.new }
 {

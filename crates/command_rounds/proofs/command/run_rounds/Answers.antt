@@ -1,4 +1,5 @@
 use Rattle.std.proofs.Common.{◌*◌, [], ◌∷◌, arith, ap, inl, inr, refl, subst, sym}
+use lib.ListN.{get_elem?}
 use Rattle.std.specs.List.{AllByRecursion}
 use Rattle.larch_actions.specs.declared.event.Layout.{Layout}
 use Rattle.larch_actions.specs.Layout.{HasNames, IsLawful}
@@ -40,6 +41,8 @@ returns-in-Ok g c =
         within = (v.1, v.2);
         trace = record { reads = subst (λ (l : Layout). ReadsAs bytes l w.0 numbers) c.in-Ok.ensures.layout (c.print-status.ensures.reads w.0 round sum v.0 w.1 v.3); closed = w.2 };
         own = w.4;
+        apart = c.in-Ok.ensures.apart w.0 w.1;
+        first = c.in-Ok.ensures.first w.0 v.0 w.1 (ap (λ l. get_elem? l 2) v.3);
       },
       c.print-status.ensures.printed w.0 round sum v.0 w.1 v.3,
     )

@@ -1,14 +1,18 @@
-use Rattle.std.proofs.Common.{ℕ, arith, ap, subst, refl, ◌∙◌}
+use Rattle.std.proofs.Common.{◌≡◌, ℕ, List, length, arith, ap, subst, refl, ◌∙◌}
 use Rattle.std.specs.List.{All}
 use Rattle.std.proofs.lemmas.List.Elements.{recursion_from_All}
 use Rattle.larch_actions.specs.declared.event.Layout.{Layout}
 use Rattle.larch_actions.specs.Actions.{IsClosed}
 use Rattle.larch_actions.specs.Layout.{HasNames}
-use Rattle.nub.specs.Ended.{KeepsLocks}
+use Rattle.larch_actions.specs.declared.event.Event.{Event}
+use Rattle.nub.specs.Ended.{IsWhole, KeepsLocks, KeepsStints}
 use Rattle.nub.proofs.Users.{idle_done}
 use Rattle.barrier_once.specs.Rounds.{AreRounds}
 use Rattle.command_rounds.specs.Playing.{AreTotals}
+use Rattle.command_rounds.proofs.Apart.{all_come, stinted_of}
 use Rattle.command_rounds.proofs.Closing.{begins, closed_values, parts_of}
+use Rattle.command_rounds.proofs.First.{of_first}
+use Rattle.command_rounds.proofs.Printed.{same_some}
 use Rattle.command_rounds.proofs.run.play_rounds.Goals as goal
 
 pub open_package-requires-clause-holds : goal.open_package-requires-clause-holds
@@ -49,3 +53,33 @@ returns-clause-values g c =
 pub returns-clause-totals : goal.returns-clause-totals
 returns-clause-totals g c =
     subst (λ (n : ℕ). AreTotals n c.args.rounds c.in_ok-totals.totals.items) (ap (λ w. w.parties) c.in_ok-p.ensures.package.2) (c.in_ok-threads.ensures.totals 0 _ c.in_ok-totals.ensures refl)
+
+pub returns-clause-apart : goal.returns-clause-apart
+returns-clause-apart g c = λ h reported.
+    let traced = c.in_ok-p.ensures.package.1 in
+    let world = c.in_ok-p.ensures.package.2 in
+    let threads = c.in_ok-threads.threads.items in
+    let values = c.in_ok-closed.closed.values in
+    let whole = c.in_ok-closed.ensures.traced traced in
+    let kept = c.in_ok-closed.ensures.stints traced in
+    let count = c.in_ok-p.ensures.count ∙ ap (λ l. l.threads) c.of-layout.ensures in
+    let same = c.in_ok-threads.ensures.count in
+    let here = subst (λ (z : List Event). IsWhole c.in_ok-p.p.layout threads z) (same_some c.in_ok-closed.closed.trace whole.0 h whole.1 reported) whole.2 in
+    let keeps = subst (λ (z : List Event). KeepsStints (AreRounds c.in_ok-p.p.world) threads values z) (same_some c.in_ok-closed.closed.trace kept.0 h kept.1 reported) kept.2 in
+    let size : length threads ≡ c.args.threads = omega arith in
+    all_come c.in_ok-p.p.world c.args.threads h keeps.stints (stinted_of c.in_ok-p.p.layout c.in_ok-p.p c.in_ok-p.p.world c.args.rounds c.args.threads threads values h size here keeps c.in_ok-threads.ensures.played)
+
+pub returns-clause-first : goal.returns-clause-first
+returns-clause-first g c = λ h v reported last.
+    let traced = c.in_ok-p.ensures.package.1 in
+    let world = c.in_ok-p.ensures.package.2 in
+    let threads = c.in_ok-threads.threads.items in
+    let values = c.in_ok-closed.closed.values in
+    let whole = c.in_ok-closed.ensures.traced traced in
+    let kept = c.in_ok-closed.ensures.stints traced in
+    let count = c.in_ok-p.ensures.count ∙ ap (λ l. l.threads) c.of-layout.ensures in
+    let same = c.in_ok-threads.ensures.count in
+    let here = subst (λ (z : List Event). IsWhole c.in_ok-p.p.layout threads z) (same_some c.in_ok-closed.closed.trace whole.0 h whole.1 reported) whole.2 in
+    let keeps = subst (λ (z : List Event). KeepsStints (AreRounds c.in_ok-p.p.world) threads values z) (same_some c.in_ok-closed.closed.trace kept.0 h kept.1 reported) kept.2 in
+    let size : length threads ≡ c.args.threads = omega arith in
+    of_first c.in_ok-p.p.layout c.in_ok-p.p c.in_ok-p.p.world c.args.rounds c.args.threads threads values h v (ap (λ w. w.at) world ∙ c.places.ensures) (ap (λ w. w.parties) world) size here keeps c.in_ok-closed.ensures.values.1 c.in_ok-threads.ensures.played last

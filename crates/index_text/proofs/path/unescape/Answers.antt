@@ -12,7 +12,7 @@ pub loop-b-preserved : goal.loop-b-preserved
 loop-b-preserved c end =
     let bytes = c.args.bytes.now in
     let i = c.loop-b.b-index in
-    elim c.match-taken.branch [
+    elim c.match-step_of.branch [
       | in-Wait w ↦ rw (w.out-is, w.pending-is) (unescape_waits bytes c.loop-b.out.items c.loop-b.pending i (omega arith) c.loop-b.invariant w.in-Wait.ensures end)
       | in-Put+in_ok-push-in-Put w ↦ rw (w.out-is, w.pending-is, w.in_ok-push-in-Put.ensures.items) (unescape_puts bytes c.loop-b.out.items c.loop-b.pending i w.in-Put.byte (omega arith) c.loop-b.invariant w.in-Put.ensures end)
     ]

@@ -1,4 +1,4 @@
-use Rattle.std.proofs.Common.{◌≡◌, ◌∙◌, List, ℕ, subst, sym, refl}
+use Rattle.std.proofs.Common.{List, ℕ, subst, sym, refl}
 use Rattle.std.specs.Option.{option_copied}
 use Rattle.exact_text.proofs.Reported.{same_reported, fault_reported}
 use Rattle.word_index.specs.Index.{Hit}

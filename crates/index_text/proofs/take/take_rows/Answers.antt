@@ -1,4 +1,4 @@
-use Rattle.std.proofs.Common.{◌≡◌, ◌∙◌, ◌∷◌, ◌++◌, [], List, ℕ, refl, sym, subst, Ok, Err, Option}
+use Rattle.std.proofs.Common.{◌∙◌, List, ℕ, refl, sym, subst, Ok, Err, Option}
 use Rattle.std.specs.Option.{option_copied}
 use Rattle.exact_text.specs.Exact.{IsStuck, OrMemory}
 use Rattle.exact_text.specs.Intake.{rest_of, room_of}

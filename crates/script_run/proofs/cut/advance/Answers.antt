@@ -90,8 +90,8 @@ returns-clause-forked g c =
     let d = parts g b.before in
     let e = unborn_same c.in-Unborn.right d.right (sym c.in-Unborn.is ∙ c.replace-2.ensures.value ∙ found g b c.index-slots-width.result) in
     let other = ap (λ k. k.number) e ∙ d.number in
-    let parent = subst (λ (n : ℕ). IsPlaying p n (take (i + 1) xs) [] c.start-parent.result.0.numbers c.start-parent.result.0.me) c.play_to_fork-playing.ensures.playing.number c.start-parent.ensures.parent in
-    let child = subst (λ (n : ℕ). IsPlaying p n (take (i + 1) xs) [] c.start-parent.result.1.numbers c.start-parent.result.1.me) other c.start-parent.ensures.child in
+    let parent = subst (λ (n : ℕ). IsPlaying p n (take (i + 1) xs) c.start-parent.result.0.numbers c.start-parent.result.0.me) c.play_to_fork-playing.ensures.playing.number c.start-parent.ensures.parent in
+    let child = subst (λ (n : ℕ). IsPlaying p n (take (i + 1) xs) c.start-parent.result.1.numbers c.start-parent.result.1.me) other c.start-parent.ensures.child in
     let within = low g b.before in
     are_forked p xs i t u c.args.slots.now d (i + 1) c.width-width.result (slot.Live c.start-parent.result.1 (i + 1) true) (slot.Live c.start-parent.result.0 (i + 1) false) _ refl (omega arith) (wide g b)
     (filled p xs i t u c.args.slots.now d c.replace.new.dest c.replace-2.new.dest (slot.Live c.start-parent.result.1 (i + 1) true) (slot.Live c.start-parent.result.0 (i + 1) false) (length c.args.slots.now - 1) (c.width-width.result - 1) (last g b.before) (place g b))

@@ -7,7 +7,9 @@ use Rattle.larch_actions.specs.declared.event.Version.{Version}
 use Rattle.larch_actions.specs.Actions.{IsClosed, by_thread}
 use Rattle.larch_actions.specs.Layout.{HasNames, IsLawful}
 use Rattle.script_text.specs.Runs.{AreEventsOf, total}
-use Rattle.script_run.proofs.Closing.{if_both}
+use Rattle.nub.specs.Ended.{IsFirst}
+use Rattle.script_text.specs.Visited.{AreVisited}
+use Rattle.script_run.proofs.Closing.{events_made, if_both, if_four, visited_of, whole_same}
 use Rattle.larch_actions.specs.declared.event.Version.TheVariants.{Two}
 use Rattle.larch_actions.specs.declared.kind.Kind.TheVariants.{Thread}
 use Rattle.larch_actions.proofs.Names.{few_of}
@@ -15,16 +17,16 @@ use Rattle.script_text.specs.declared.line.Line.{Line}
 use Rattle.script_text.specs.Operations.{none_held, MayFollow, none_forked}
 use Rattle.script_text.specs.Text.{IsScript}
 use Rattle.nub_rule.specs.Forks.{with_number}
-use Rattle.nub.specs.Ended.{IsFirst}
 use Rattle.sum_uses.specs.declared.added.Added.{Added}
 use Rattle.script_run.specs.declared.slots.Slot.{Slot}
 use Rattle.script_run.specs.Placing.{occurs, ended_slots}
 use Rattle.script_run.specs.Playing.{Player}
 use Rattle.script_run.specs.Regions.{region}
 use Rattle.script_run.specs.Slots.{AreOver, AreReady, slot_number}
-use Rattle.script_run.proofs.Gathering.{AreBack, enough_rights, ready_first, all_ended, are_back, back_left, back_all, events_of, totals_of, below_of, over_moved, long_over}
+use Rattle.script_run.proofs.Gathering.{AreBack, enough_rights, ready_first, all_ended, are_back, back_left, back_all, made_of, totals_of, below_of, over_moved, long_over}
 use Rattle.script_run.proofs.Members.{written}
 use Rattle.script_run.proofs.Pieces.{one_region}
+use Rattle.nub.proofs.Roomy.{first_roomy}
 use Rattle.script_run.proofs.Sums.{first_sums}
 use Rattle.script_run.proofs.forked.run_forked.Given.{Over}
 use Rattle.script_run.proofs.forked.run_forked.Goals as goal
@@ -55,7 +57,7 @@ ready : (g : Over) (c : After-as_mut_slice g) → AreReady c.in_ok-pkg.pkg c.lin
 ready g c =
     let xs = c.lines-lines.result.now in
     let order = below_of xs c.in_ok-order.order.items c.deref.result.now c.len-2.result c.in_ok-order.ensures c.deref.ensures.value (c.len-2.ensures ∙ c.in_ok-order.order.ok.0) in
-    let first = subst (λ (k : Player). IsFirst c.in_ok-pkg.pkg (λ w n. let s : List Added = [] in s) 0 k) (sym c.reserve.ensures) c.in_ok-pkg.ensures.first in
+    let first = subst (λ (k : Player). IsFirst c.in_ok-pkg.pkg (λ w n. let s : List Added = [] in s) 0 k) (sym c.reserve.ensures.same) (first_roomy c.in_ok-pkg.pkg c.reserve.new.self.capacity c.in_ok-pkg.first _ 0 c.in_ok-pkg.ensures.first) in
     subst (λ (z : List Slot). AreReady c.in_ok-pkg.pkg xs 0 0 z) (sym c.as_mut_slice.ensures.value)
     (ready_first c.in_ok-pkg.pkg xs c.reserve.new.self c.in_ok-pkg.rights.items (take (c.len-2.result - 1) c.deref.result.now) c.in_ok-slots.slots.items c.in_ok-slots.others.items c.in_ok-slots.ensures order first c.in_ok-pkg.ensures.rights)
 
@@ -129,7 +131,8 @@ returns-clause-trace g c =
     (λ o threads w.
     let own : (t : ℕ) → t < c.args.script.now.layout.threads → AreEventsOf c.args.script.now.layout.version c.args.script.now.lines t (by_thread t w.0) = λ t low.
     let here : t < l.threads = subst (λ (z : Layout). t < z.threads) (sym same) low in
-    let e = events_of p l l xs c.ends.result.items c.in_ok-slots.others.items o.threads w.0 two follow b threads w.2 t here in
+    let made = made_of p l xs c.ends.result.items c.in_ok-slots.others.items o.threads two follow b threads in
+    let e = events_made Two l xs o.threads l.threads w.0 made.0 made.1 w.2 t here in
     subst (λ (v : Version). AreEventsOf v c.args.script.now.lines t (by_thread t w.0)) (sym c.requires.version) (subst (λ (ys : List Line). AreEventsOf Two ys t (by_thread t w.0)) c.lines-lines.ensures.lines e) in (
       w.0,
       w.1,
@@ -157,3 +160,28 @@ returns-clause-values g c =
     let e = totals_of p l xs c.ends.result.items c.in_ok-slots.others.items o.threads o.values lawful two follow b threads w.1 w.0 m here in
     subst (λ (ys : List Line). get_or o.values m 0 ≡ total ys m) c.lines-lines.ensures.lines e)
     c.close_forked.ensures.threads c.close_forked.ensures.values
+
+pub returns-clause-visits : goal.returns-clause-visits
+returns-clause-visits g c =
+    let a = goal.at.returns-clause-visits g c in
+    let r = (ready g a.After-as_mut_slice).numbers in
+    let b = back g a.After-ends r (over g a.After-play_all r) in
+    let p = c.in_ok-pkg.pkg in
+    let l = p.layout in
+    let k = c.args.script.now.layout in
+    let xs = c.lines-lines.result.now in
+    let ended = c.ends.result.items in
+    let others = c.in_ok-slots.others.items in
+    let same : l ≡ k = c.in_ok-pkg.ensures.package.0 ∙ c.layout-layout.ensures.layout in
+    let two : l.version ≡ Two = ap (λ (z : Layout). z.version) same ∙ c.requires.version in
+    let follow = follows k l c.args.script.now.lines xs same c.lines-lines.ensures.lines c.lines-lines.ensures.script in
+    let lawful : IsLawful l = subst IsLawful (sym c.in_ok-pkg.ensures.package.0) c.layout-layout.ensures.lawful in
+    let traced = c.in_ok-pkg.ensures.package.1 in
+    if_four c.close_forked.result _ _ _ _ _
+    (λ o threads values whole stints.
+    let made = made_of p l xs ended others o.threads two follow b threads in
+    let sums = totals_of p l xs ended others o.threads o.values lawful two follow b threads values.1 values.0 in
+    let here = whole_same l o.threads whole.0 stints.0 o.trace whole.1 stints.1 whole.2 in
+    let visited = visited_of Two l xs o.threads o.values stints.0 two made.0 made.1 here stints.2 values.0 sums in
+    (stints.0, stints.1, subst (λ (z : Layout). AreVisited z c.args.script.now.lines stints.0) same (subst (λ (ys : List Line). AreVisited l ys stints.0) c.lines-lines.ensures.lines visited)))
+    c.close_forked.ensures.threads c.close_forked.ensures.values (c.close_forked.ensures.traced traced) (c.close_forked.ensures.stints traced)

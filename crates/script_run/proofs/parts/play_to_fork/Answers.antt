@@ -1,4 +1,4 @@
-use Rattle.std.proofs.Common.{◌+◌, [], ℕ, take, refl, sym, subst, ◌∙◌, arith, length-take-le}
+use Rattle.std.proofs.Common.{◌+◌, ℕ, take, refl, sym, subst, ◌∙◌, arith, length-take-le}
 use Rattle.std.proofs.lemmas.List.{take_more}
 use Rattle.script_run.specs.Playing.{IsPlaying}
 use Rattle.script_run.proofs.Births.{below_step}
@@ -15,7 +15,7 @@ play_line-requires-clause-playing g c =
     let i = c.loop-next.next in
     let xs = take i c.args.lines.now in
     let at = comes_at c.args.pkg.now.layout c.args.lines.now i _ c.requires.script.follow c.loop-next-test.true in
-    let P : ℕ → Type 0 = λ t. IsPlaying c.args.pkg.now t xs [] c.loop-next.numbers c.loop-next.me in
+    let P : ℕ → Type 0 = λ t. IsPlaying c.args.pkg.now t xs c.loop-next.numbers c.loop-next.me in
     let few = c.requires.few in
     let low = c.loop-next-test.true in
     let was = c.loop-next.invariant.playing in
@@ -33,7 +33,7 @@ loop-next-preserved g c =
     let size = length-take-le i c.args.lines.now (omega arith) in
     elim c.if-line-number.branch [
       | then-line-number+in_default w ↦
-          let P : ℕ → Type 0 = λ t. IsPlaying c.args.pkg.now t xs [] c.loop-next.numbers c.loop-next.me in
+          let P : ℕ → Type 0 = λ t. IsPlaying c.args.pkg.now t xs c.loop-next.numbers c.loop-next.me in
           record {
             playing = moved c.args.pkg.now c.loop-next.me.number c.number-number.result _ (take (i + 1) c.args.lines.now) w.play_line.new.numbers c.if-line-number.numbers w.play_line.new.me c.if-line-number.me was.number (sym (take_more c.args.lines.now i _ low)) w.numbers-is w.me-is
                 (w.play_line.ensures xs (subst P (sym was.number) was) at.1 at.0 (omega arith));

@@ -10,7 +10,7 @@ use Rattle.script_run.proofs.play.play.Goals.{then-line-number, else-line-number
 
 pub loop-line-init : goal.loop-line-init
 loop-line-init g c =
-    let P : ℕ → Type 0 = λ t. IsPlaying c.args.pkg.now t [] [] _ c.args.me in
+    let P : ℕ → Type 0 = λ t. IsPlaying c.args.pkg.now t [] _ c.args.me in
     subst P (sym c.number-number.ensures) (begins c.args.pkg.now c.args.me.number _ c.args.me refl c.requires.first)
 
 pub play_line-requires-clause-own : goal.play_line-requires-clause-own
@@ -20,7 +20,7 @@ pub play_line-requires-clause-playing : goal.play_line-requires-clause-playing
 play_line-requires-clause-playing g c =
     let xs = take c.loop-line.line-index c.args.lines.now in
     let at = comes_at c.args.pkg.now.layout c.args.lines.now c.loop-line.line-index _ c.requires.script.follow c.loop-line-test.true in
-    let P : ℕ → Type 0 = λ t. IsPlaying c.args.pkg.now t xs [] c.loop-line.numbers c.loop-line.me in
+    let P : ℕ → Type 0 = λ t. IsPlaying c.args.pkg.now t xs c.loop-line.numbers c.loop-line.me in
     let few = c.requires.few in
     let low = c.loop-line-test.true in
     (xs, subst P (sym c.loop-line.invariant.number) c.loop-line.invariant, at.1, at.0, omega (arith, length-take-le c.loop-line.line-index c.args.lines.now (omega arith)))
@@ -36,7 +36,7 @@ loop-line-preserved g c =
     let size = length-take-le i c.args.lines.now (omega arith) in
     elim c.if-line-number.branch [
       | then-line-number w ↦
-          let P : ℕ → Type 0 = λ t. IsPlaying c.args.pkg.now t xs [] c.loop-line.numbers c.loop-line.me in
+          let P : ℕ → Type 0 = λ t. IsPlaying c.args.pkg.now t xs c.loop-line.numbers c.loop-line.me in
           moved c.args.pkg.now c.loop-line.me.number c.number-number.result _ (take (i + 1) c.args.lines.now) w.play_line.new.numbers c.if-line-number.numbers w.play_line.new.me c.if-line-number.me was.number (sym (take_more c.args.lines.now i _ low)) w.numbers-is w.me-is
           (w.play_line.ensures xs (subst P (sym was.number) was) at.1 at.0 (omega arith))
       | else-line-number w ↦
