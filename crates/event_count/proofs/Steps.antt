@@ -17,11 +17,11 @@ module _ {T H W : Type 0} where
     begun_raised w begun = begun ∙ ap (λ k. recorded k z (λ q. record q { wait = w })) raises
 
   -- the thread o has read its number as b, has begun its wait as u, and has given the pen back as z
-  module _ (o b u z : Known T H W) (pen : o.pen ≡ No) (began : b ≡ record o { part = record o.part { pen = b.pen }; next = b.next }) (tells : z ≡ record u { part = record u.part { pen = No }; entries = z.entries; lost = z.lost }) where
+  module _ (o b u z : Known T H W) (pen : o.pen ≡ No) (began : b ≡ record o { part = record o.part { pen = b.pen }; next = b.next }) (tells : z ≡ record u { part = record u.part { pen = No }; entries = z.entries; space = z.space }) where
     pub begun_traced : (w : Opt Wait) (q : Pen) → u ≡ record b { part = record (learnt b.part u.part) { wait = w; pen = q } } → z ≡ recorded o z (λ q. record q { wait = w })
     begun_traced w q begun =
         let G : Known T H W → Known T H W = λ k. record k { part = record k.part { seen = z.seen; mine = z.mine; places = z.places }; next = z.next } in
-        let F : Known T H W → Known T H W = λ k. record k { part = record k.part { seen = z.seen; mine = z.mine; places = z.places; pen = No }; next = z.next; entries = z.entries; lost = z.lost } in
+        let F : Known T H W → Known T H W = λ k. record k { part = record k.part { seen = z.seen; mine = z.mine; places = z.places; pen = No }; next = z.next; entries = z.entries; space = z.space } in
         let E : Known T H W → Pen → Known T H W = λ k p. recorded k z (λ q. record q { wait = w; pen = p }) in
         ap G tells ∙ ap F begun ∙ ap (λ k. E k No) began ∙ ap (E o) (sym pen)
 
@@ -45,7 +45,7 @@ module _ {T H W : Type 0} where
   module _ (n : ℕ) (o i b a e : Known T H W) (l : List ℕ) (m : ℕ) (p : Pen)
       (below : i ≡ record o { part = record o.part { spin = Some n; queue = i.queue; left = i.queue; count = i.count; failed = without n o.failed } })
       (began : b ≡ record i { part = record i.part { pen = b.pen }; next = b.next }) (advances : a ≡ record b { part = record (learnt b.part a.part) { left = l; count = m; calling = None; pen = p } })
-      (tells : e ≡ record a { part = record a.part { pen = No }; entries = e.entries; lost = e.lost }) where
+      (tells : e ≡ record a { part = record a.part { pen = No }; entries = e.entries; space = e.space }) where
     pub owes_as_before : e.owed ≡ o.owed
     owes_as_before = ap (λ k. k.owed) tells ∙ (ap (λ k. k.owed) advances ∙ (ap (λ k. k.owed) began ∙ ap (λ k. k.owed) below))
 
@@ -53,9 +53,9 @@ module _ {T H W : Type 0} where
       -- it has left, with what it owes then
       advanced : (d : List ℕ) → z ≡ record e { part = record e.part { spin = None; queue = []; left = []; owed = d } } → d ≡ o.owed → z ≡ recorded o z (λ q. record q { count = z.count; failed = without n o.failed; calling = None })
       advanced d last owed =
-          let G : Known T H W → Known T H W = λ k. record k { part = record k.part { seen = z.seen; mine = z.mine; places = z.places; count = z.count }; entries = z.entries; lost = z.lost; next = z.next } in
+          let G : Known T H W → Known T H W = λ k. record k { part = record k.part { seen = z.seen; mine = z.mine; places = z.places; count = z.count }; entries = z.entries; space = z.space; next = z.next } in
           let F : Known T H W → Known T H W =
-          λ k. record k { part = record k.part { spin = None; queue = []; left = []; owed = d; seen = z.seen; mine = z.mine; places = z.places; count = z.count }; entries = z.entries; lost = z.lost; next = z.next } in
+          λ k. record k { part = record k.part { spin = None; queue = []; left = []; owed = d; seen = z.seen; mine = z.mine; places = z.places; count = z.count }; entries = z.entries; space = z.space; next = z.next } in
           let K : Known T H W → Known T H W = λ k. record (F k) { part = record (F k).part { pen = No } } in
           let D : Known T H W → Known T H W = λ k. record (K k) { part = record (K k).part { calling = None } } in
           let E : Opt ℕ → List ℕ → List ℕ → List ℕ → Pen → Known T H W = λ s q f u r. recorded o z (λ p. record p { spin = s; queue = q; left = f; owed = u; pen = r; count = z.count; failed = without n o.failed; calling = None }) in

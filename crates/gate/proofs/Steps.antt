@@ -11,7 +11,7 @@ use Rattle.nub_rule.specs.declared.view.Pen.{Pen}
 use Rattle.nub_rule.specs.declared.view.Pen.TheVariants.{No}
 use Rattle.nub_rule.specs.declared.view.Stand.{Stand}
 use Rattle.nub_rule.specs.declared.view.Wait.{Wait}
-use Rattle.nub_rule.specs.Known.{Known, Makes, learnt, recorded}
+use Rattle.nub_rule.specs.Known.{Known, Makes, Space, learnt, recorded}
 use Rattle.nub.proofs.Making.{makes_from}
 use Rattle.nub.specs.Rest.{IsOutside}
 use Rattle.gate.specs.Gates.{IsTaken}
@@ -97,7 +97,7 @@ module _ {T H W : Type 0} where
   pub won_at_once : (o u : Known T H W) (f t : List ℕ) → u ≡ record o { part = record (learnt o.part u.part) { held = u.held; wait = None; failed = f; turns = t }; values = u.values }
       → u ≡ record (recorded o u (λ q. record q { held = u.held; count = u.count; wait = None; failed = u.failed; turns = u.turns })) { values = u.values }
   won_at_once o u f t won =
-      let G : Known T H W → Known T H W = λ k. record k { part = record k.part { count = u.count; failed = u.failed; turns = u.turns }; entries = u.entries; lost = u.lost; next = u.next } in
+      let G : Known T H W → Known T H W = λ k. record k { part = record k.part { count = u.count; failed = u.failed; turns = u.turns }; entries = u.entries; space = u.space; next = u.next } in
       ap G won
 
   -- one try in an untraced package: it has failed as u, or it has taken the bit
@@ -113,28 +113,28 @@ module _ {T H W : Type 0} where
       won_once = let F : Pen → Known T H W = λ p. record o { part = record (learnt o.part u.part) { held = u.held; wait = None; failed = f; turns = t; pen = p }; values = u.values } in won ∙ ap F same
 
       pub won_untraced : u ≡ record (recorded o u (λ q. record q { held = u.held; wait = None; failed = f; turns = t })) { values = u.values }
-      won_untraced = let G : Known T H W → Known T H W = λ k. record k { entries = u.entries; lost = u.lost; next = u.next } in ap G won_once
+      won_untraced = let G : Known T H W → Known T H W = λ k. record k { entries = u.entries; space = u.space; next = u.next } in ap G won_once
 
   -- the thread o has read its number as b, has tried the bit as u, and has given the pen back as z
-  module _ (o b u z : Known T H W) (pen : o.pen ≡ No) (began : b ≡ record o { part = record o.part { pen = b.pen }; next = b.next }) (tells : z ≡ record u { part = record u.part { pen = No }; entries = z.entries; lost = z.lost }) where
+  module _ (o b u z : Known T H W) (pen : o.pen ≡ No) (began : b ≡ record o { part = record o.part { pen = b.pen }; next = b.next }) (tells : z ≡ record u { part = record u.part { pen = No }; entries = z.entries; space = z.space }) where
     pub won_traced : (f t : List ℕ → List ℕ) (q : Pen) → u ≡ record b { part = record (learnt b.part u.part) { held = u.held; wait = None; failed = f b.failed; turns = t b.turns; pen = q }; values = u.values }
         → z ≡ record (recorded o z (λ q. record q { held = z.held; wait = None; failed = f o.failed; turns = t o.turns })) { values = z.values }
     won_traced f t q won =
         let G : Known T H W → Known T H W = λ k. record k { part = record k.part { seen = z.seen; mine = z.mine; places = z.places; held = z.held }; next = z.next; values = z.values } in
-        let F : Known T H W → Known T H W = λ k. record k { part = record k.part { seen = z.seen; mine = z.mine; places = z.places; held = z.held; pen = No }; next = z.next; values = z.values; entries = z.entries; lost = z.lost } in
+        let F : Known T H W → Known T H W = λ k. record k { part = record k.part { seen = z.seen; mine = z.mine; places = z.places; held = z.held; pen = No }; next = z.next; values = z.values; entries = z.entries; space = z.space } in
         let E : Known T H W → Pen → Known T H W = λ k p. record (recorded k z (λ q. record q { held = z.held; wait = None; failed = f k.failed; turns = t k.turns; pen = p })) { values = z.values } in
         ap G tells ∙ ap F won ∙ ap (λ k. E k No) began ∙ ap (E o) (sym pen)
 
-    pub lost_traced : (f t : List ℕ → List ℕ) → (z.entries ≡ u.entries) × (z.lost ≡ u.lost) → u ≡ record b { part = record b.part { failed = f b.failed; turns = t b.turns } }
+    pub lost_traced : (f t : List ℕ → List ℕ) → (z.entries ≡ u.entries) × (z.space ≡ u.space) → u ≡ record b { part = record b.part { failed = f b.failed; turns = t b.turns } }
         → z ≡ record o { part = record o.part { failed = f o.failed; turns = t o.turns }; next = z.next }
     lost_traced f t kept lost =
         let G : Known T H W → Known T H W = λ k. record k { next = z.next } in
-        let F : Known T H W → Known T H W = λ k. record k { part = record k.part { pen = No }; next = z.next; entries = z.entries; lost = z.lost } in
-        let E : Known T H W → Known T H W = λ k. record k { part = record k.part { failed = f k.failed; turns = t k.turns; pen = No }; next = z.next; entries = z.entries; lost = z.lost } in
-        let D : Pen → List Entry → Bool → Known T H W = λ p l y. record o { part = record o.part { failed = f o.failed; turns = t o.turns; pen = p }; next = z.next; entries = l; lost = y } in
-        ap G tells ∙ ap F lost ∙ ap E began ∙ ap (λ p. D p z.entries z.lost) (sym pen)
-        ∙ ap (λ l. D o.pen l z.lost) (kept.0 ∙ (ap (λ k. k.entries) lost ∙ ap (λ k. k.entries) began))
-        ∙ ap (D o.pen o.entries) (kept.1 ∙ (ap (λ k. k.lost) lost ∙ ap (λ k. k.lost) began))
+        let F : Known T H W → Known T H W = λ k. record k { part = record k.part { pen = No }; next = z.next; entries = z.entries; space = z.space } in
+        let E : Known T H W → Known T H W = λ k. record k { part = record k.part { failed = f k.failed; turns = t k.turns; pen = No }; next = z.next; entries = z.entries; space = z.space } in
+        let D : Pen → List Entry → Space → Known T H W = λ p l y. record o { part = record o.part { failed = f o.failed; turns = t o.turns; pen = p }; next = z.next; entries = l; space = y } in
+        ap G tells ∙ ap F lost ∙ ap E began ∙ ap (λ p. D p z.entries z.space) (sym pen)
+        ∙ ap (λ l. D o.pen l z.space) (kept.0 ∙ (ap (λ k. k.entries) lost ∙ ap (λ k. k.entries) began))
+        ∙ ap (D o.pen o.entries) (kept.1 ∙ (ap (λ k. k.space) lost ∙ ap (λ k. k.space) began))
 
     pub taken_traced : (fits : W → ℕ → T → ℕ → H → Type 0) (at : Object) → IsTaken fits at b u → IsTaken fits at o z
     taken_traced fits at taken =

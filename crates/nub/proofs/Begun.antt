@@ -13,7 +13,7 @@ use Rattle.nub_rule.specs.declared.view.Kind.TheVariants.{Member}
 use Rattle.nub_rule.specs.Ends.{first_known, newborn_known}
 use Rattle.nub_rule.specs.Forks.{AreAll, IsUnborn, in_order}
 use Rattle.nub_rule.specs.Items.{Each}
-use Rattle.nub_rule.specs.Known.{HasNone, Known, Makes, Shape, known_as}
+use Rattle.nub_rule.specs.Known.{HasNone, Known, Makes, Shape, free_space, known_as}
 use Rattle.nub_rule.specs.Parts.{HasNothing, fresh}
 use Rattle.nub_rule.specs.Rule.{begun}
 use Rattle.nub_rule.proofs.Each.{each-snoc, put-else}
@@ -77,10 +77,10 @@ module _ {T H W : Type 0} where
       subst P (sym e) record {
         later = omega arith;
         world = w;
-        is = λ i. known_as z n (record { world = Some w; kind = Member; number = n; part = fresh Two (unborn-first n ne i) [] (Some (begin w n)); child = No; next = 0; back = [] }, []) [] false 0;
+        is = λ i. known_as z n (record { world = Some w; kind = Member; number = n; part = fresh Two (unborn-first n ne i) [] (Some (begin w n)); child = No; next = 0; back = [] }, []) [] (free_space 0) 0;
       }
 
-  pub begun_is : (p : Shape W) (begin : W → ℕ → H) (n : ℕ) (a t : Known T H W) → n < p.layout.threads → p.layout.mutexes ≤ 64 → a.version ≡ p.layout.version → t ≡ newborn_known p.table_id a.version a.world begin n a.seen → IsBegun p begin n a t
+  pub begun_is : (p : Shape W) (begin : W → ℕ → H) (n : ℕ) (a t : Known T H W) → n < p.layout.threads → p.layout.mutexes ≤ 64 → a.version ≡ p.layout.version → t ≡ newborn_known p.table_id a.version a.world begin n a.seen t.capacity → IsBegun p begin n a t
   begun_is p begin n a t low few of e = let P : Known T H W → Type 0 = λ k. IsBegun p begin n a k in
       subst P (sym e) record {
         number = refl;

@@ -33,7 +33,7 @@ module _ {T H W : Type 0} where
       makes_from (by o.number) o s z number version seen mine places pen (subst (λ (n : ℕ). Makes (by n) s z) number at)
 
   -- the thread o has read its number as b, has made the event as u, and has given the pen back as z
-  module _ (o b u z : Known T H W) (pen : o.pen ≡ No) (began : b ≡ record o { part = record o.part { pen = b.pen }; next = b.next }) (recorded : z ≡ record u { part = record u.part { pen = No }; entries = z.entries; lost = z.lost }) where
+  module _ (o b u z : Known T H W) (pen : o.pen ≡ No) (began : b ≡ record o { part = record o.part { pen = b.pen }; next = b.next }) (recorded : z ≡ record u { part = record u.part { pen = No }; entries = z.entries; space = z.space }) where
     pub made_traced : (e : Event) → Makes e b u → Makes e o z
     made_traced e at =
         let far = ap (λ k. k.seen ++ at.0) began in (

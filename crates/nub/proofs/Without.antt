@@ -74,7 +74,7 @@ module _ {T H W : Type 0} where
 
   -- an event was made with the pen between a and d, and stored
   pub stored_by : (traced : Bool) (a b c d : Known T H W) (e : Event) → b ≡ record a { part = record a.part { pen = b.pen }; next = b.next } → MayRecord traced b.life b.pen → (traced ≡ true → b.pen ≡ Read b.next) → Makes e b c → c.next ≡ b.next → c.entries ≡ b.entries → c.lost ≡ b.lost
-      → d ≡ record c { part = record c.part { pen = No }; entries = d.entries; lost = d.lost }
+      → d ≡ record c { part = record c.part { pen = No }; entries = d.entries; space = d.space }
       → ((x : Event) → Some e ≡ Some x → traced ≡ true → d.lost ≡ false → (c.lost ≡ false) × (d.entries ≡ c.entries ++ record { number = c.next; event = x } ∷ []))
       → HasStored traced a → HasStored traced d
   stored_by traced a b c d e begin tell next makes same entries lost end store has t l =

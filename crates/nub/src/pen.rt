@@ -3,7 +3,7 @@ ghost use Rattle.std.specs.Prelude.{◌≡◌, ◌≢◌, ◌<◌, ℕ, ◌++◌
 ghost use Rattle.larch_actions.specs.declared.event.Event.{Event};
 ghost use Rattle.larch_actions.specs.declared.event.Life.TheVariants.{Live};
 ghost use Rattle.nub_rule.specs.declared.view.Pen.TheVariants.{No, Taken, Read, Made};
-ghost use Rattle.nub_rule.specs.Stored.{ComesNext};
+ghost use Rattle.nub_rule.specs.Stored.{ComesNext, KeepsRoom};
 ghost use Rattle.nub_rule.specs.Parts.{MayRecord};
 
 use crossbeam_utils::Backoff;
@@ -39,9 +39,10 @@ pub fn end_event<U: Uses>(p: &Package<U>, me: &mut Thread<U>, made: Option<Event
         × ((e : Event) → made ≡ Some e → me.old.pen ≡ Made me.old.next) }
     requires out { p.now.traced ≡ false → me.old.pen ≡ No }
     requires last { p.now.traced ≡ true → (e : Event) → made ≡ Some e → ComesNext e me.old }
-    ensures rest { me.new ≡ record me.old { part = record me.old.part { pen = No }; entries = me.new.entries; lost = me.new.lost } }
+    ensures rest { me.new ≡ record me.old { part = record me.old.part { pen = No }; entries = me.new.entries; space = me.new.space } }
     ensures untraced { p.now.traced ≡ false → me.new ≡ me.old }
-    ensures none { made ≡ None → (me.new.entries ≡ me.old.entries) × (me.new.lost ≡ me.old.lost) }
+    ensures none { made ≡ None → (me.new.entries ≡ me.old.entries) × (me.new.space ≡ me.old.space) }
+    ensures room { KeepsRoom me.old me.new }
     ensures stored { (e : Event) → made ≡ Some e → p.now.traced ≡ true → me.new.lost ≡ false → (me.old.lost ≡ false)
         × (me.new.entries ≡ me.old.entries ++ record { number = me.old.next; event = e } ∷ []) }
 {
@@ -81,8 +82,9 @@ fn end_traced<U: Uses>(p: &Package<U>, me: &mut Thread<U>, made: Option<Event>)
     requires below { me.old.next < 18446744073709551615 }
     requires pen { (made ≡ None → me.old.pen ≡ Read me.old.next) × ((e : Event) → made ≡ Some e → me.old.pen ≡ Made me.old.next) }
     requires last { (e : Event) → made ≡ Some e → ComesNext e me.old }
-    ensures rest { me.new ≡ record me.old { part = record me.old.part { pen = No }; entries = me.new.entries; lost = me.new.lost } }
-    ensures none { made ≡ None → (me.new.entries ≡ me.old.entries) × (me.new.lost ≡ me.old.lost) }
+    ensures rest { me.new ≡ record me.old { part = record me.old.part { pen = No }; entries = me.new.entries; space = me.new.space } }
+    ensures none { made ≡ None → (me.new.entries ≡ me.old.entries) × (me.new.space ≡ me.old.space) }
+    ensures room { KeepsRoom me.old me.new }
     ensures stored { (e : Event) → made ≡ Some e → me.new.lost ≡ false → (me.old.lost ≡ false)
         × (me.new.entries ≡ me.old.entries ++ record { number = me.old.next; event = e } ∷ []) }
 {

@@ -1,5 +1,5 @@
 -- What a step leaves of a thread: that it is one still, and what contracts see of it. And the slot that a step is on, at the front of the thread's hand.
-use Rattle.std.proofs.Common.{Bool, ◌≡◌, ℕ, ◌<◌, ◌≤◌, List, [], ◌∷◌, ◌++◌, length, length-set, set, refl, sym, ap, ◌∙◌, subst, arith, Some, None}
+use Rattle.std.proofs.Common.{◌≡◌, ℕ, ◌<◌, ◌≤◌, List, [], ◌∷◌, ◌++◌, length, length-set, set, refl, sym, ap, ◌∙◌, subst, arith, Some, None}
 use Rattle.std.specs.Prelude.{Option as Opt}
 use mathlib.Core.Option.{some}
 use lib.ListN.{get_elem?}
@@ -14,7 +14,7 @@ use Rattle.nub_rule.specs.declared.view.Part.{Part}
 use Rattle.nub_rule.specs.declared.view.Stint.{Stint}
 use Rattle.nub_rule.specs.declared.view.View.{View}
 use Rattle.nub_rule.specs.Items.{queue_of}
-use Rattle.nub_rule.specs.Known.{EntersStint, Holds, IsIn, Known, known_as, values_of, value_in, IsThread, Makes, PicksShare}
+use Rattle.nub_rule.specs.Known.{EntersStint, Holds, IsIn, Known, known_as, values_of, value_in, IsThread, Makes, PicksShare, Space}
 use Rattle.nub_rule.specs.Places.{most_threads, queue_at, value_at}
 use Rattle.nub_rule.specs.Plays.{Entered, Sat, with_part, recorded, Grows, stint}
 use Rattle.nub_rule.specs.Slots.{find, IsDistinct, Below, past_first}
@@ -25,13 +25,13 @@ use Rattle.nub_rule.proofs.Turns.{keys}
 
 module _ {T H W : Type 0} where
   -- the thread, as contracts see it, after a step that changed the part by f and the values by h
-  pub seen_as : (f : ℕ → Part T H → Part T H) (h : List (Opt (Opt T)) → List (Opt (Opt T))) (z z' : TableId) (n : ℕ) (es : List Entry) (lo : Bool) {nx : ℕ} (me me' : Sat T H W) (ds : List (ℕ × Slot T)) (a : Known T H W)
+  pub seen_as : (f : ℕ → Part T H → Part T H) (h : List (Opt (Opt T)) → List (Opt (Opt T))) (z z' : TableId) (n : ℕ) (es : List Entry) (lo : Space) {nx : ℕ} (me me' : Sat T H W) (ds : List (ℕ × Slot T)) (a : Known T H W)
       → known_as z n me es lo nx ≡ a → z' ≡ z → me' ≡ (with_part me.0 (f n me.0.part), ds) → values_of ds ≡ h (values_of me.1) → known_as z' n me' es lo nx ≡ record a { part = f a.number a.part; values = h a.values }
   seen_as f h z z' n es lo {nx} me me' ds a v ez em vs = subst (λ (t : TableId × Sat T H W × Known T H W). known_as t.0 n t.1 es lo nx ≡ record t.2 { part = f t.2.number t.2.part; values = h t.2.values }) (λ i. (sym ez i, sym em i, v i))
       (λ i. record (known_as z n me es lo nx) { part = f n me.0.part; values = vs i })
 
   -- and after a step that changed the part alone
-  pub noted : (f : ℕ → Part T H → Part T H) (z z' : TableId) (n : ℕ) (es : List Entry) (lo : Bool) {nx : ℕ} (me me' : Sat T H W) (a : Known T H W) → known_as z n me es lo nx ≡ a → z' ≡ z → me' ≡ (with_part me.0 (f n me.0.part), me.1) → known_as z' n me' es lo nx ≡ record a { part = f a.number a.part }
+  pub noted : (f : ℕ → Part T H → Part T H) (z z' : TableId) (n : ℕ) (es : List Entry) (lo : Space) {nx : ℕ} (me me' : Sat T H W) (a : Known T H W) → known_as z n me es lo nx ≡ a → z' ≡ z → me' ≡ (with_part me.0 (f n me.0.part), me.1) → known_as z' n me' es lo nx ≡ record a { part = f a.number a.part }
   noted f z z' n es lo me me' a v ez em = seen_as f (λ vs. vs) z z' n es lo me me' me.1 a v ez em refl
 
   -- the thread is one still after a step that changed neither what it has nor where it stands
@@ -43,7 +43,7 @@ module _ {T H W : Type 0} where
   -- the thread is one still, and contracts see it with its part changed by f and its values by h
   pub record After (f : ℕ → Part T H → Part T H) (h : List (Opt (Opt T)) → List (Opt (Opt T))) (z z' : TableId) (n : ℕ) (hand : List ℕ) (me me' : Sat T H W) (kept : List T) (room : ℕ) : Type 0 where
     pub fits : IsThread z' n hand me' kept room
-    pub sees : (es : List Entry) (lo : Bool) (nx : ℕ) (a : Known T H W) → known_as z n me es lo nx ≡ a → known_as z' n me' es lo nx ≡ record a { part = f a.number a.part; values = h a.values }
+    pub sees : (es : List Entry) (lo : Space) (nx : ℕ) (a : Known T H W) → known_as z n me es lo nx ≡ a → known_as z' n me' es lo nx ≡ record a { part = f a.number a.part; values = h a.values }
 
   -- the queue of the object whose spin word the thread has stands first in its hand
   pub record QueueAtHand (me front : Sat T H W) (hand : List ℕ) (o : ℕ) : Type 0 where
@@ -66,7 +66,7 @@ module _ {T H W : Type 0} where
   -- what contracts see of a thread after the queue became zs, by a step that changed the part by f
   pub requeued_seen : (f : ℕ → Part T H → Part T H) (zs : List ℕ) (s : Slot T) (z z' : TableId) (n : ℕ) (hand hand' : List ℕ) (me front me' : Sat T H W) (o : ℕ) {kept : List T} {room : ℕ} → IsThread z n hand me kept room → QueueAtHand me front hand' o → z' ≡ z → s ≡ Queue (queue_of zs)
       → me' ≡ (with_part front.0 (f front.0.number front.0.part), (queue_at o, s) ∷ rest front.1)
-      → (es : List Entry) (lo : Bool) (nx : ℕ) (a : Known T H W) → known_as z n me es lo nx ≡ a → known_as z' n me' es lo nx ≡ record a { part = f a.number a.part }
+      → (es : List Entry) (lo : Space) (nx : ℕ) (a : Known T H W) → known_as z n me es lo nx ≡ a → known_as z' n me' es lo nx ≡ record a { part = f a.number a.part }
   requeued_seen f zs s z z' n hand hand' me front me' o i at ez is em es lo nx a v =
       let ds : List (ℕ × Slot T) = (queue_at o, Queue (queue_of zs)) ∷ rest front.1 in
       let r = at.refill zs in
@@ -118,11 +118,11 @@ module _ {T H W : Type 0} where
         sees = λ es lo nx a v. seen_as (λ _ p. p) (λ vs. set vs m (Some x)) z z' n es lo me me' ds a v ez now (values-set m (Some x) me.1 ds low (ap value_in r.here) (λ k ne. r.elsewhere (value_at k) (λ e. ne (omega arith))));
       }
 
-  pub value_is : (m : ℕ) (y : Opt T) (z : TableId) (n : ℕ) (es : List Entry) (lo : Bool) {nx : ℕ} (me : Sat T H W) (a : Known T H W) → known_as z n me es lo nx ≡ a → get_elem? a.values m ≡ some (Some y) → find (value_at m) me.1 ≡ Some (Value y)
+  pub value_is : (m : ℕ) (y : Opt T) (z : TableId) (n : ℕ) (es : List Entry) (lo : Space) {nx : ℕ} (me : Sat T H W) (a : Known T H W) → known_as z n me es lo nx ≡ a → get_elem? a.values m ≡ some (Some y) → find (value_at m) me.1 ≡ Some (Value y)
   value_is m y z n es lo me a v e = value-found m y me.1 (ap (λ k. get_elem? k.values m) v ∙ e)
 
   -- an event that the step made, as contracts see it
-  pub makes_as : (e : Event) (u : List Event) (z z' : TableId) (n : ℕ) (es : List Entry) (lo : Bool) {nx : ℕ} (me me' : Sat T H W) (q : Part T H) (ds : List (ℕ × Slot T)) (a : Known T H W) → known_as z n me es lo nx ≡ a → z' ≡ z → me' ≡ (with_part me.0 q, ds)
+  pub makes_as : (e : Event) (u : List Event) (z z' : TableId) (n : ℕ) (es : List Entry) (lo : Space) {nx : ℕ} (me me' : Sat T H W) (q : Part T H) (ds : List (ℕ × Slot T)) (a : Known T H W) → known_as z n me es lo nx ≡ a → z' ≡ z → me' ≡ (with_part me.0 q, ds)
       → Grows n me.0.part u e → q.seen ≡ (me.0.part.seen ++ u) ++ e ∷ [] → q.mine ≡ me.0.part.mine ++ e ∷ [] → q.places ≡ me.0.part.places ++ length (me.0.part.seen ++ u) ∷ [] → Makes e a (known_as z' n me' es lo nx)
   makes_as e u z z' n es lo {nx} me me' q ds a v ez em grows seen mine places = subst (λ (t : TableId × Sat T H W × Known T H W). Makes e t.2 (known_as t.0 n t.1 es lo nx)) (λ i. (sym ez i, sym em i, v i)) (u, grows, seen, mine, places)
 
@@ -134,7 +134,7 @@ module _ {T H W : Type 0} where
       → ((q : Part T H) → (f q).held ≡ q.held) → ((q : Part T H) → (f q).spin ≡ q.spin) → ((q : Part T H) → (f q).queue ≡ q.queue) → ((q : Part T H) → (f q).owed ≡ q.owed) → ((q : Part T H) → (f q).stand ≡ q.stand) → IsThread z' n hand me' kept room
   recorded_fits e f z z' n hand me me' u ez i eh es eq eo et = let q = recorded me.0.part (me.0.part.seen ++ u.0) (e me.0.number) in fit_noted z z' n hand me me' (f q) ez u.2 i (eh q) (es q) (eq q) (eo q) (et q)
 
-  pub recorded_event : (e : ℕ → Event) (f : Part T H → Part T H) (z z' : TableId) (n : ℕ) (es : List Entry) (lo : Bool) {nx : ℕ} (me me' : Sat T H W) (a : Known T H W) → HistoryItem e f me me' → known_as z n me es lo nx ≡ a → z' ≡ z → me.0.number ≡ n
+  pub recorded_event : (e : ℕ → Event) (f : Part T H → Part T H) (z z' : TableId) (n : ℕ) (es : List Entry) (lo : Space) {nx : ℕ} (me me' : Sat T H W) (a : Known T H W) → HistoryItem e f me me' → known_as z n me es lo nx ≡ a → z' ≡ z → me.0.number ≡ n
       → ((q : Part T H) → (f q).seen ≡ q.seen) → ((q : Part T H) → (f q).mine ≡ q.mine) → ((q : Part T H) → (f q).places ≡ q.places) → Makes (e a.number) a (known_as z' n me' es lo nx)
   recorded_event e f z z' n es lo me me' a u v ez num seen mine places =
       let q = recorded me.0.part (me.0.part.seen ++ u.0) (e me.0.number) in
@@ -157,7 +157,7 @@ module _ {T H W : Type 0} where
       (λ k there nowhere. subst (λ (l : List ℕ). length l < most_threads) (ap (λ x. x.queue) (sym p)) (h.room k (ap (λ x. x.spin) (sym p) ∙ there) (ap (λ x. x.stand) (sym p) ∙ nowhere))) (λ none. ap (λ x. x.owed) p ∙ h.settled (ap (λ x. x.spin) (sym p) ∙ none)) h))
 
   -- the event that a step told after a slot was brought to the front, by the number and the queue of its thread
-  pub recorded_after : (e : ℕ → List ℕ → Event) (f : Part T H → Part T H) (u : List Event) (z z' : TableId) (n : ℕ) (es : List Entry) (lo : Bool) {nx : ℕ} (me me' : Sat T H W) (front : View T H W) (ds : List (ℕ × Slot T)) (a : Known T H W) → known_as z n me es lo nx ≡ a → z' ≡ z → front ≡ me.0 → me.0.number ≡ n
+  pub recorded_after : (e : ℕ → List ℕ → Event) (f : Part T H → Part T H) (u : List Event) (z z' : TableId) (n : ℕ) (es : List Entry) (lo : Space) {nx : ℕ} (me me' : Sat T H W) (front : View T H W) (ds : List (ℕ × Slot T)) (a : Known T H W) → known_as z n me es lo nx ≡ a → z' ≡ z → front ≡ me.0 → me.0.number ≡ n
       → Grows front.number front.part u (e front.number front.part.queue) → me' ≡ (with_part front (f (recorded front.part (front.part.seen ++ u) (e front.number front.part.queue))), ds)
       → ((q : Part T H) → (f q).seen ≡ q.seen) → ((q : Part T H) → (f q).mine ≡ q.mine) → ((q : Part T H) → (f q).places ≡ q.places) → Makes (e a.number a.queue) a (known_as z' n me' es lo nx)
   recorded_after e f u z z' n es lo me me' front ds a v ez same num grows em seen mine places =
@@ -168,7 +168,7 @@ module _ {T H W : Type 0} where
       (seen q ∙ (λ j. (me.0.part.seen ++ u) ++ is j ∷ [])) (mine q ∙ (λ j. me.0.part.mine ++ is j ∷ [])) (places q)
 
   -- the share that was picked with a value that was given back, and the stint that was entered
-  pub freed_stint : (after : W → ℕ → ℕ → T → T → H → H) (m : ℕ) (share : Opt H) (stints : List (Stint T H)) (z z' : TableId) (n : ℕ) (es : List Entry) (lo : Bool) {nx : ℕ} (me front me' : Sat T H W) (q : Part T H) (ds : List (ℕ × Slot T)) (a : Known T H W) → known_as z n me es lo nx ≡ a → front.0 ≡ me.0 → me.0.number ≡ n
+  pub freed_stint : (after : W → ℕ → ℕ → T → T → H → H) (m : ℕ) (share : Opt H) (stints : List (Stint T H)) (z z' : TableId) (n : ℕ) (es : List Entry) (lo : Space) {nx : ℕ} (me front me' : Sat T H W) (q : Part T H) (ds : List (ℕ × Slot T)) (a : Known T H W) → known_as z n me es lo nx ≡ a → front.0 ≡ me.0 → me.0.number ≡ n
       → ((y : T) → find (value_at m) me.1 ≡ Some (Value (Some y)) → front.1 ≡ (value_at m, Value (Some y)) ∷ rest front.1) → me' ≡ (with_part front.0 q, ds) → q.share ≡ share → q.stints ≡ stints
       → Entered after m front share stints → PicksShare after m a (known_as z' n me' es lo nx) × EntersStint after m a (known_as z' n me' es lo nx)
   freed_stint after m share stints z z' n es lo me front me' q ds a v same num first em eq ek records =

@@ -1,33 +1,30 @@
 -- What follows from the rule.
-use Rattle.std.proofs.Common.{Bool, true, false, ◌≡◌, ◌≢◌, ℕ, ◌<◌, ◌⊎◌, List, [], ◌∷◌, ◌++◌, get_or, refl, sym, ap, ◌∙◌, subst, inl, inr, ⊎_elim, arith, Some, None, cond, eq-eqb}
+use Rattle.std.proofs.Common.{Bool, true, false, ◌≡◌, ◌≢◌, ℕ, ◌<◌, ◌⊎◌, List, [], ◌∷◌, ◌++◌, get_or, refl, sym, ap, ◌∙◌, inl, inr, ⊎_elim, Some, cond, eq-eqb}
 use mathlib.Core.Option.{Option, some}
 use lib.ListN.{get_elem?}
-use Rattle.larch_actions.specs.declared.event.CondId.{CondId}
-use Rattle.larch_actions.specs.declared.event.Event.{Event}
 use Rattle.larch_actions.specs.declared.event.Layout.{Layout}
 use Rattle.larch_actions.specs.declared.event.Life.{Life}
 use Rattle.larch_actions.specs.declared.event.Life.TheVariants.{Unborn, Live, Ended}
-use Rattle.larch_actions.specs.Actions.{Spec, Leads, acted}
+use Rattle.larch_actions.specs.Actions.{Spec, Leads}
 use Rattle.larch_actions.specs.Sets.{mem}
 use Rattle.larch_actions.proofs.Sets.{mem-here}
 use Rattle.nub_rule.specs.declared.object.Object.TheVariants.{Cond}
-use Rattle.nub_rule.specs.declared.object.Why.TheVariants.{QueueSeen}
 use Rattle.nub_rule.specs.declared.rule.Slot.{Slot}
 use Rattle.nub_rule.specs.declared.view.Part.{Part}
 use Rattle.nub_rule.specs.declared.view.Stand.{Stand}
 use Rattle.nub_rule.specs.declared.view.Wait.{Wait}
 use Rattle.nub_rule.specs.Consequences.{AreQuiet, EntersToSignal, Follows, SomebodyAlive}
 use Rattle.nub_rule.specs.Items.{Each}
-use Rattle.nub_rule.specs.Known.{HasReason, IsCalling, Known}
+use Rattle.nub_rule.specs.Known.{IsCalling}
 use Rattle.nub_rule.specs.Objects.{IsGate, object_of}
 use Rattle.nub_rule.specs.Owed.{HasCleared, HasTurn, IsUnsure, MustLook, SomebodyMustLook}
-use Rattle.nub_rule.specs.PackageRule.{AnyView, IsFlagOf, IsReady, NoView, OwesAt, PackageRule}
+use Rattle.nub_rule.specs.PackageRule.{AnyView, IsReady, NoView, OwesAt, PackageRule}
 use Rattle.nub_rule.specs.Parts.{Has, HasNothing, counts_in, is_at, stands_at, waits_on}
-use Rattle.nub_rule.specs.Places.{bit_at, cond_object, count_at, spin_at, waits_at}
+use Rattle.nub_rule.specs.Places.{bit_at, cond_object, count_at, spin_at}
 use Rattle.nub_rule.specs.Plays.{fork_event}
 use Rattle.nub_rule.proofs.Each.{at_below, put-here}
 use Rattle.nub_rule.proofs.History.{step-state}
-use Rattle.nub_rule.proofs.Lines.{both_ways, false_true, not_true, some_none}
+use Rattle.nub_rule.proofs.Lines.{false_true, not_true, some_none}
 
 alive-else : (x : Life) → (x ≢ Live → ⊥) → x ≡ Live
 alive-else Unborn h = absurd (h (λ e. cc))

@@ -3,7 +3,7 @@ use Rattle.std.proofs.Common.{Bool, ◌≡◌, ℕ, List, [], ◌∷◌, ◌++�
 use Rattle.larch_actions.specs.declared.event.Event.{Event}
 use Rattle.atomic_table.specs.Seated.{TableId}
 use Rattle.nub_rule.specs.declared.package.Entry.{Entry}
-use Rattle.nub_rule.specs.Known.{Known, known_as, IsThread, Makes}
+use Rattle.nub_rule.specs.Known.{Known, known_as, IsThread, Makes, Space}
 use Rattle.nub_rule.specs.Parts.{made}
 use Rattle.nub_rule.specs.Places.{value_at}
 use Rattle.nub_rule.specs.Plays.{Sat, Grows, recorded, with_part, begun_wait, enqueue_event}
@@ -16,8 +16,8 @@ module _ {T H W : Type 0} (alertable : Bool) (m o r : ℕ) where
   -- the thread is one still, and has made its event and begun the wait with the count r
   pub record Entered (z z' : TableId) (n : ℕ) (hand : List ℕ) (me me' : Sat T H W) (kept : List T) (room : ℕ) : Type 0 where
     pub fits : IsThread z' n hand me' kept room
-    pub makes : (es : List Entry) (lo : Bool) (nx : ℕ) (a : Known T H W) → known_as z n me es lo nx ≡ a → Makes (enqueue_event alertable a.number m o) a (known_as z' n me' es lo nx)
-    pub sees : (es : List Entry) (lo : Bool) (nx : ℕ) (a : Known T H W) → known_as z n me es lo nx ≡ a → (let k = known_as z' n me' es lo nx in k ≡ record a { part = record a.part { seen = k.seen; mine = k.mine; places = k.places; wait = Some (begun_wait alertable m o r); pen = made a.pen } })
+    pub makes : (es : List Entry) (lo : Space) (nx : ℕ) (a : Known T H W) → known_as z n me es lo nx ≡ a → Makes (enqueue_event alertable a.number m o) a (known_as z' n me' es lo nx)
+    pub sees : (es : List Entry) (lo : Space) (nx : ℕ) (a : Known T H W) → known_as z n me es lo nx ≡ a → (let k = known_as z' n me' es lo nx in k ≡ record a { part = record a.part { seen = k.seen; mine = k.mine; places = k.places; wait = Some (begun_wait alertable m o r); pen = made a.pen } })
 
   pub entered : (u : List Event) (z z' : TableId) (n : ℕ) (hand hand' : List ℕ) (me front me' : Sat T H W) {kept : List T} {room : ℕ} → IsThread z n hand me kept room → front.0 ≡ me.0 → keys front.1 ≡ hand' → IsDistinct front.1 → Below 256 front.1 → ((k : ℕ) → find k front.1 ≡ find k me.1) → z' ≡ z
       → Grows front.0.number front.0.part u (enqueue_event alertable front.0.number m o)

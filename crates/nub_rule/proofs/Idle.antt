@@ -1,14 +1,12 @@
 -- A thread that hasn't begun, or has ended, has nothing, and no step of it changes that: each asks that its thread lives, or for something that such a
 -- thread hasn't.
-use Rattle.std.proofs.Common.{◌≡◌, ◌≢◌, ℕ, ◌⊎◌, List, [], ◌∷◌, replicate, refl, sym, ap, ◌∙◌, subst, ⊎_elim, true, false, Some, None}
+use Rattle.std.proofs.Common.{◌≡◌, ◌≢◌, ℕ, List, ◌∷◌, refl, sym, ap, ◌∙◌, subst, true, false, Some}
 use Rattle.std.specs.Prelude.{Option as Opt}
 use mathlib.Core.Logic.{dite}
-use mathlib.Core.Option.{some}
 use native.Mathlib.Decide.{ℕ_discrete}
-use lib.ListN.{get_elem?}
 use Rattle.larch_actions.specs.declared.event.Event.{Event}
 use Rattle.larch_actions.specs.declared.event.Life.{Life}
-use Rattle.larch_actions.specs.declared.event.Life.TheVariants.{Unborn, Live, Ended}
+use Rattle.larch_actions.specs.declared.event.Life.TheVariants.{Live, Ended}
 use Rattle.larch_actions.specs.declared.event.Version.{Version}
 use Rattle.larch_actions.specs.Sets.{mem, without}
 use Rattle.nub_rule.specs.declared.view.Child.{Child}

@@ -22,7 +22,7 @@ use Rattle.nub_rule.specs.declared.view.Stand.{Stand}
 use Rattle.nub_rule.specs.declared.view.View.{View}
 use Rattle.nub_rule.specs.declared.view.Wait.{Wait}
 use Rattle.nub_rule.specs.Items.{queue_of}
-use Rattle.nub_rule.specs.Known.{Known, Shape, MayPop, MayPush, known_as, shape_of, IsThread}
+use Rattle.nub_rule.specs.Known.{Known, Shape, Space, MayPop, MayPush, known_as, shape_of, IsThread}
 use Rattle.nub_rule.specs.Objects.{object_of, HasObject, IsCond, IsGate}
 use Rattle.nub_rule.specs.Parts.{left_turns}
 use Rattle.nub_rule.specs.Places.{cond_object, sem_object, length_at, most_threads, queue_at}
@@ -47,7 +47,7 @@ no_cond (Cond c) gate is = gate
 
 module _ {T H W : Type 0} where
   -- what the caller showed of what contracts see, as facts of the fields
-  module _ {records : Step (Slot T) → Sat T H W → ℕ → Sat T H W → Type 0} {begin : W → ℕ → H} {holds : W → List T → List H → Type 0} {z z' : TableId} {key : About W} {s : Shape W} {n : ℕ} {es : List Entry} {lo : Bool} {nx : ℕ} {k : Known T H W} {o o' : ℕ} (me : Sat T H W) (v : shape_of z key ≡ s) (w : known_as z' n me es lo nx ≡ k) (q : o ≡ o') where
+  module _ {records : Step (Slot T) → Sat T H W → ℕ → Sat T H W → Type 0} {begin : W → ℕ → H} {holds : W → List T → List H → Type 0} {z z' : TableId} {key : About W} {s : Shape W} {n : ℕ} {es : List Entry} {lo : Space} {nx : ℕ} {k : Known T H W} {o o' : ℕ} (me : Sat T H W) (v : shape_of z key ≡ s) (w : known_as z' n me es lo nx ≡ k) (q : o ≡ o') where
     pub push_shown : MayRequeue (IsKept s.layout s.traced s.world begin holds) records s.layout k o' (k.queue ++ k.number ∷ []) ⊥
         → MayRequeue (IsKept key.layout key.traced key.world.value begin holds) records key.layout (known_as z' n me es lo nx) o (me.0.part.queue ++ n ∷ []) ⊥
     push_shown = subst (λ (x : Shape W × Known T H W × ℕ). MayRequeue (IsKept x.0.layout x.0.traced x.0.world begin holds) records x.0.layout x.1 x.2 (x.1.queue ++ x.1.number ∷ []) ⊥) (λ j. (sym v j, sym w j, sym q j))
@@ -60,7 +60,7 @@ module _ {T H W : Type 0} where
         → mem n me.0.part.queue ≡ true → MayRequeue (IsKept key.layout key.traced key.world.value begin holds) records key.layout (known_as z' n me es lo nx) o (less n me.0.part.queue) (Unit {0})
     leave_shown = subst (λ (x : Shape W × Known T H W × ℕ). mem x.1.number x.1.queue ≡ true → MayRequeue (IsKept x.0.layout x.0.traced x.0.world begin holds) records x.0.layout x.1 x.2 (less x.1.number x.1.queue) (Unit {0})) (λ j. (sym v j, sym w j, sym q j))
 
-  module _ {rule : State (Slot T) (View T H W) → Type 0} {records : Step (Slot T) → Sat T H W → ℕ → Sat T H W → Type 0} {l : Layout} {z : TableId} {n : ℕ} {me : Sat T H W} {es : List Entry} {lo : Bool} {nx : ℕ} {o : ℕ} {zs : List ℕ} {nowhere : Type 0} (m : MayRequeue rule records l (known_as z n me es lo nx) o zs nowhere) where
+  module _ {rule : State (Slot T) (View T H W) → Type 0} {records : Step (Slot T) → Sat T H W → ℕ → Sat T H W → Type 0} {l : Layout} {z : TableId} {n : ℕ} {me : Sat T H W} {es : List Entry} {lo : Space} {nx : ℕ} {o : ℕ} {zs : List ℕ} {nowhere : Type 0} (m : MayRequeue rule records l (known_as z n me es lo nx) o zs nowhere) where
     -- the length word may be written
     pub may_write : (hand hand' : List ℕ) (front : Sat T H W) {kept : List T} {room : ℕ} (slots id i r : ℕ) (xs : List (ℕ × Slot T)) → IsThread z n hand me kept room → QueueAtHand me front hand' o → IsLawful l → i ≡ length_at o → r ≡ length zs
         → Allows rule slots id (front.0, xs) i (λ _. r) (λ _. records (step slots i r 0 none) (front.0, xs) r)

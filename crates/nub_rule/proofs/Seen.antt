@@ -1,5 +1,5 @@
 -- What a step tells of a seat, said of the thread as contracts see it; and that the thread stays one.
-use Rattle.std.proofs.Common.{Bool, ◌≡◌, ℕ, ◌<◌, ◌≤◌, List, [], ◌∷◌, length, refl, sym, ap, ◌∙◌, subst, Some}
+use Rattle.std.proofs.Common.{◌≡◌, ℕ, ◌<◌, ◌≤◌, List, [], ◌∷◌, length, refl, sym, ap, ◌∙◌, subst, Some}
 use Rattle.std.specs.Prelude.{Option as Opt}
 use Rattle.atomic_table.specs.Table.{rest}
 use Rattle.atomic_table.specs.Seated.{TableId}
@@ -9,7 +9,7 @@ use Rattle.nub_rule.specs.declared.view.Part.{Part}
 use Rattle.nub_rule.specs.declared.view.View.{View}
 use Rattle.nub_rule.specs.declared.view.Kind.TheVariants.{Member}
 use Rattle.nub_rule.specs.declared.rule.Slot.TheVariants.{Value}
-use Rattle.nub_rule.specs.Known.{Known, known_as, Hands, IsThread, MayGive}
+use Rattle.nub_rule.specs.Known.{Known, known_as, Hands, IsThread, MayGive, Space}
 use Rattle.nub_rule.specs.Places.{most_threads, value_at}
 use Rattle.nub_rule.specs.Plays.{Sat, with_part, MayFree}
 use Rattle.nub_rule.specs.Slots.{find, IsDistinct, Below, past_first}
@@ -17,7 +17,7 @@ use Rattle.nub_rule.proofs.Turns.{keys}
 use Rattle.nub_rule.proofs.Handling.{gone, value-found}
 
 module _ {T H W : Type 0} where
-  pub as_known : (P : TableId → Sat T H W → Known T H W → Type 0) (z z' : TableId) (n : ℕ) (es : List Entry) (lo : Bool) {nx : ℕ} (me me' m : Sat T H W) (a : Known T H W) → known_as z n me es lo nx ≡ a → z' ≡ z → me' ≡ m → P z m (known_as z n me es lo nx) → P z' me' a
+  pub as_known : (P : TableId → Sat T H W → Known T H W → Type 0) (z z' : TableId) (n : ℕ) (es : List Entry) (lo : Space) {nx : ℕ} (me me' m : Sat T H W) (a : Known T H W) → known_as z n me es lo nx ≡ a → z' ≡ z → me' ≡ m → P z m (known_as z n me es lo nx) → P z' me' a
   as_known P z z' n es lo me me' m a v ez em base = subst (λ (t : TableId × Sat T H W × Known T H W). P t.0 t.1 t.2) (λ i. (sym ez i, sym em i, v i)) base
 
   -- only the part has changed
@@ -79,7 +79,7 @@ module _ {T H W : Type 0} where
 
 module _ {T H W : Type 0} where
   -- a thread that may give a mutex back, with its slot brought to the front
-  pub may_free : (allows : W → ℕ → ℕ → T → T → H → H → Type 0) (after : W → ℕ → ℕ → T → T → H → H) (m : ℕ) (z : TableId) (n : ℕ) (es : List Entry) (lo : Bool) {nx : ℕ} (me : Sat T H W) (k : Known T H W) (v : View T H W) (ds : List (ℕ × Slot T))
+  pub may_free : (allows : W → ℕ → ℕ → T → T → H → H → Type 0) (after : W → ℕ → ℕ → T → T → H → H) (m : ℕ) (z : TableId) (n : ℕ) (es : List Entry) (lo : Space) {nx : ℕ} (me : Sat T H W) (k : Known T H W) (v : View T H W) (ds : List (ℕ × Slot T))
       → known_as z n me es lo nx ≡ k → me.0.number ≡ n → v ≡ me.0 → ((s : Slot T) → find (value_at m) me.1 ≡ Some s → ds ≡ (value_at m, s) ∷ rest ds) → MayGive allows after m k → MayFree allows after m (v, ds)
   may_free allows after m z n es lo me k v ds is number same first may = let t = subst (λ (j : Known T H W). MayGive allows after m j) (sym is) may in
       subst (λ (v : View T H W). MayFree allows after m (v, ds)) (sym same)

@@ -1,5 +1,5 @@
 -- What a package begins with, and what it leaves.
-use Rattle.std.specs.Prelude.{false, ◌≡◌, ◌≢◌, ℕ, ◌<◌, List, [], ◌++◌, map, length, replicate, slice_index, Option as Opt, Some}
+use Rattle.std.specs.Prelude.{◌≡◌, ◌≢◌, ℕ, ◌<◌, List, [], ◌++◌, map, length, replicate, slice_index, Option as Opt, Some}
 use Rattle.std.specs.List.{range_with_len}
 use mathlib.Core.Option.{none, some}
 use lib.ListN.{get_elem?}
@@ -18,7 +18,7 @@ use Rattle.nub_rule.specs.declared.view.Part.{Part}
 use Rattle.nub_rule.specs.Stints.{StintedToEnd}
 use Rattle.nub_rule.specs.Items.{no_queue, Each, HistoryItem, Shared}
 use Rattle.nub_rule.specs.Parts.{first_part, newborn, number_of}
-use Rattle.nub_rule.specs.Known.{Known, known_as}
+use Rattle.nub_rule.specs.Known.{Known, known_as, free_space}
 use Rattle.nub_rule.specs.Rule.{begun}
 use Rattle.nub_rule.specs.Places.{life_at, value_at, word_count}
 
@@ -82,11 +82,11 @@ module _ {T H W : Type 0} where
           back = [];
         },
         [],
-      ) [] false 0
+      ) [] (free_space 0) 0
 
-  -- the thread n, which was forked with this history and has done nothing
-  abbrev pub newborn_known : TableId → Version → Opt W → (W → ℕ → H) → ℕ → List Event → Known T H W
-  newborn_known z version world begin n seen =
+  -- the thread n, which was forked with this history and has done nothing, with room for so many events
+  abbrev pub newborn_known : TableId → Version → Opt W → (W → ℕ → H) → ℕ → List Event → ℕ → Known T H W
+  newborn_known z version world begin n seen capacity =
       known_as z n (
         record {
           world = world;
@@ -99,4 +99,4 @@ module _ {T H W : Type 0} where
           back = [];
         },
         [],
-      ) [] false 0
+      ) [] (free_space capacity) 0

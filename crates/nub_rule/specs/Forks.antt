@@ -1,19 +1,19 @@
 -- The right to fork a thread, what is left of a thread that has ended, and all of these in order of
 -- their numbers.
-use Rattle.std.specs.Prelude.{◌≡◌, ◌≢◌, ℕ, zero, suc, ◌<◌, cond, eqb, false, List, [], ◌∷◌, ◌++◌, Some, None}
+use Rattle.std.specs.Prelude.{◌≡◌, ◌≢◌, ℕ, zero, suc, ◌<◌, cond, eqb, List, [], ◌∷◌, ◌++◌, Some, None}
 use Rattle.larch_actions.specs.declared.event.Life.TheVariants.{Live, Ended}
 use Rattle.larch_actions.specs.declared.event.Version.{Version}
 use Rattle.atomic_table.specs.Seated.{TableId}
 use Rattle.nub_rule.specs.declared.view.Child.TheVariants.{No as Childless}
 use Rattle.nub_rule.specs.declared.view.Kind.TheVariants.{Member}
 use Rattle.nub_rule.specs.declared.view.Pen.TheVariants.{No}
-use Rattle.nub_rule.specs.Known.{Known, HasNone, known_as}
+use Rattle.nub_rule.specs.Known.{Known, HasNone, free_space, known_as}
 use Rattle.nub_rule.specs.Parts.{unborn}
 
 module _ {T H W : Type 0} where
-  -- the thread n, which nobody has forked
-  abbrev pub unborn_known : TableId → Version → W → (W → ℕ → H) → ℕ → Known T H W
-  unborn_known z version w begin n =
+  -- the thread n, which nobody has forked, with room for so many events
+  abbrev pub unborn_known : TableId → Version → W → (W → ℕ → H) → ℕ → ℕ → Known T H W
+  unborn_known z version w begin n capacity =
       known_as z n (
         record {
           world = Some w;
@@ -26,13 +26,13 @@ module _ {T H W : Type 0} where
           back = [];
         },
         [],
-      ) [] false 0
+      ) [] (free_space capacity) 0
 
   -- the right to fork a thread, which isn't the first and has done nothing
   pub record IsUnborn (begin : W → ℕ → H) (k : Known T H W) : Type 0 where
     pub later : 0 < k.number
     pub world : W
-    pub is : k ≡ unborn_known k.table_id k.version world begin k.number
+    pub is : k ≡ unborn_known k.table_id k.version world begin k.number k.capacity
 
   -- the thread has ended: it holds no mutex, no call of it is open, and it is forking no other
   pub record IsOver (k : Known T H W) : Type 0 where

@@ -1,5 +1,6 @@
 -- What contracts see of a package and of a thread.
-use Rattle.std.specs.Prelude.{Bool, true, false, ◌≡◌, ◌⊎◌, ℕ, ◌<◌, ◌≤◌, List, [], ◌∷◌, ◌++◌, length, map, Option as Opt, Some, None}
+use Rattle.std.specs.Prelude.{Bool, true, false, ◌≡◌, ◌⊎◌, ℕ, ◌<◌, ◌≤◌, List, [], ◌∷◌, ◌++◌, length, map, Option as Opt, Some, None, vec_capacity}
+use Rattle.std.proofs.Common.{Vec, Global}
 use Rattle.std.specs.List.{range_with_len}
 use mathlib.Core.Option.{some}
 use lib.ListN.{get_elem?}
@@ -42,6 +43,18 @@ pub record Shape (W : Type 0) : Type 0 where
 abbrev pub shape_of : {W : Type 0} → TableId → About W → Shape W
 shape_of z l = record { table_id = z; layout = l.layout; traced = l.traced; world = l.world.value }
 
+-- whether a list of stored events has lost one, and how many events it has allocated room for
+pub record Space : Type 0 where
+  pub lost : Bool
+  pub capacity : ℕ
+
+abbrev pub space_of : Vec Entry Global → Bool → Space
+space_of v lost = record { lost = lost; capacity = vec_capacity v }
+
+-- nothing is lost
+abbrev pub free_space : ℕ → Space
+free_space capacity = record { lost = false; capacity = capacity }
+
 pub record Known (T H W : Type 0) : Type 0 where
   -- the package that the thread is of
   pub table_id : TableId
@@ -54,9 +67,10 @@ pub record Known (T H W : Type 0) : Type 0 where
   pub child : Child
   -- for each mutex whose bit the thread has, the value, unless it was taken out
   pub values : List (Opt (Opt T))
-  -- the events that it has stored with their numbers, and whether it has lost one
+  -- the events that it has stored with their numbers, and the space for them
   pub entries : List Entry
-  pub lost : Bool
+  pub space : Space
+  pub open space use *
   -- the number that it last read with the pen
   pub next : ℕ
 
@@ -75,8 +89,8 @@ module _ {T H : Type 0} where
   learnt p q = record p { seen = q.seen; mine = q.mine; places = q.places }
 
 module _ {T H W : Type 0} where
-  abbrev pub known_as : TableId → ℕ → Me (Slot T) (View T H W) → List Entry → Bool → ℕ → Known T H W
-  known_as z n me entries lost next = record {
+  abbrev pub known_as : TableId → ℕ → Me (Slot T) (View T H W) → List Entry → Space → ℕ → Known T H W
+  known_as z n me entries space next = record {
     table_id = z;
     number = n;
     world = me.0.world;
@@ -84,14 +98,18 @@ module _ {T H W : Type 0} where
     child = me.0.child;
     values = values_of me.1;
     entries = entries;
-    lost = lost;
+    space = space;
     next = next;
   }
+
+  -- the thread k, but with allocated room for so many events
+  abbrev pub with_room_for : ℕ → Known T H W → Known T H W
+  with_room_for capacity k = record k { space = record k.space { capacity = capacity } }
 
   -- the thread a, but with what b has seen, made and stored and the number that b read, and its
   -- part then changed by f
   abbrev pub recorded : Known T H W → Known T H W → (Part T H → Part T H) → Known T H W
-  recorded a b f = record a { part = f (learnt a.part b.part); entries = b.entries; lost = b.lost; next = b.next }
+  recorded a b f = record a { part = f (learnt a.part b.part); entries = b.entries; space = b.space; next = b.next }
 
   -- the thread has the bit of the mutex, and got x with it
   abbrev pub Holds : Known T H W → ℕ → T → Type 0

@@ -79,11 +79,11 @@ pub struct Thread<U: Uses> {
 
 impl<U: Uses> Model for Thread<U> {
     ghost use Rattle.std.specs.Prelude.{vec_capacity, vec_len};
-    ghost use Rattle.nub_rule.specs.Known.{Known, known_as, IsThread};
+    ghost use Rattle.nub_rule.specs.Known.{Known, known_as, space_of, IsThread};
 
     ghost Value = { Known U.Value U.Share U.World };
 
-    ghost view = { λ t. known_as t.seat.table_id t.number t.seat.me t.entries.items t.lost t.next };
+    ghost view = { λ t. known_as t.seat.table_id t.number t.seat.me t.entries.items (space_of t.entries t.lost) t.next };
 
     ghost invariant = { λ t. IsThread t.seat.table_id t.number t.hand t.seat.me t.room.items (vec_capacity t.room) };
 }
@@ -106,8 +106,8 @@ impl<U: Uses> Package<U> {
 }
 
 impl<U: Uses> Thread<U> {
-    ghost use Rattle.std.specs.Prelude.{◌≡◌, true, false};
-    ghost use Rattle.nub_rule.specs.Known.{Holds};
+    ghost use Rattle.std.specs.Prelude.{◌≡◌, ◌+◌, ◌<◌, ◌≤◌, length, true, false, OnOk, OnErr};
+    ghost use Rattle.nub_rule.specs.Known.{Holds, with_room_for};
 
     /// Returns the number of the thread.
     #[inline]
@@ -131,14 +131,17 @@ impl<U: Uses> Thread<U> {
         self.spin_tallies = spin_tallies;
     }
 
-    /// Allocates room for `further` more events, so that storing them needs no memory. Fails only
-    /// if there is no memory.
+    /// Allocates room for `further` more events, so that none of them is lost when it is stored.
+    /// Fails only if there is no memory.
     ///
     /// ```rust
     /// threads[at].reserve(further)?;
     /// ```
     pub fn reserve(&mut self, further: usize) -> Result<(), AllocError>
-        ensures { self.new ≡ self.old }
+        ensures same { self.new ≡ with_room_for self.new.capacity self.old }
+        ensures grown { self.old.capacity ≤ self.new.capacity }
+        ensures room { OnOk result (length self.new.entries + further ≤ self.new.capacity) }
+        ensures full { OnErr result (self.old.capacity < length self.old.entries + further) }
     {
         self.entries.reserve(further)
     }

@@ -74,7 +74,7 @@ pub fn hand_out<U: Uses>(p: &Package<U>, me: &mut Thread<U>, body: Body) -> Thre
     requires forked { (seen : List Event) × (me.old.child ≡ Forked body seen) }
     ensures child { me.new ≡ record me.old { child = No } }
     ensures thread { (seen : List Event) → me.old.child ≡ Forked body seen
-        → result ≡ newborn_known p.now.table_id me.old.version me.old.world U.begin body seen }
+        → result ≡ newborn_known p.now.table_id me.old.version me.old.world U.begin body seen result.capacity }
     ensures few { p.now.layout.mutexes ≤ 64 }
 {
     let Body {

@@ -2,7 +2,7 @@
 ghost use Rattle.std.specs.Prelude.{◌≡◌, ◌≢◌, ◌+◌, ◌++◌, ◌∷◌, [], ℕ, true, false};
 ghost use Rattle.nub_rule.specs.declared.view.Pen.TheVariants.{No, Taken, Read, Made, Written};
 ghost use Rattle.nub_rule.specs.Parts.{MayGivePen};
-ghost use Rattle.nub_rule.specs.Stored.{ComesNext};
+ghost use Rattle.nub_rule.specs.Stored.{ComesNext, KeepsRoom};
 
 use crate::package::{Entry, Package, Thread};
 use crate::places::{NUMBER, PEN};
@@ -64,7 +64,8 @@ pub fn next_number<U: Uses>(me: &Thread<U>) -> u64
 #[inline]
 pub fn store_event<U: Uses>(me: &mut Thread<U>, e: Event)
     requires { ComesNext e me.old }
-    ensures kept { me.new ≡ record me.old { entries = me.new.entries; lost = me.new.lost } }
+    ensures kept { me.new ≡ record me.old { entries = me.new.entries; space = me.new.space } }
+    ensures room { KeepsRoom me.old me.new }
     ensures stored { me.new.lost ≡ false → (me.old.lost ≡ false) × (me.new.entries ≡ me.old.entries ++ record {
       number = me.old.next;
       event = e;

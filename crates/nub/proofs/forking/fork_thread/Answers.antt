@@ -120,7 +120,7 @@ begun g c =
     let seen = ap (λ k. k.seen) c.end_event.ensures.rest in
     begun_is c.args.p.now g.U.Uses.begin c.args.child.number c.hand_out.new.me c.hand_out.result c.requires.named c.hand_out.ensures.few (rest g c).version
     (c.hand_out.ensures.thread c.fork_life.new.me.seen (forked-at-last g c)
-    ∙ (λ j. newborn_known c.args.p.now.table_id (ap (λ k. k.version) (sym h) j) (ap (λ k. k.world) (sym h) j) g.U.Uses.begin (body j) ((sym seen ∙ ap (λ k. k.seen) (sym h)) j)))
+    ∙ (λ j. newborn_known c.args.p.now.table_id (ap (λ k. k.version) (sym h) j) (ap (λ k. k.world) (sym h) j) g.U.Uses.begin (body j) ((sym seen ∙ ap (λ k. k.seen) (sym h)) j) c.hand_out.result.capacity))
 
 pub returns-clause-child : goal.returns-clause-child
 returns-clause-child g c = begun g (goal.at.returns-clause-child g c).After-hand_out

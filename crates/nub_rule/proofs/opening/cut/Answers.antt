@@ -2,7 +2,7 @@ use Rattle.std.proofs.Common.{◌≡◌, [], false, rules, arith, ap, sym, refl,
 use Rattle.larch_actions.proofs.Names.{few_threads}
 use Rattle.larch_actions.specs.Actions.{lives_at_first}
 use Rattle.nub_rule.specs.declared.view.Kind.TheVariants.{Member}
-use Rattle.nub_rule.specs.Known.{known_as}
+use Rattle.nub_rule.specs.Known.{free_space, known_as}
 use Rattle.nub_rule.specs.declared.view.Child.TheVariants.{No}
 use Rattle.nub_rule.specs.Parts.{first_part}
 use Rattle.nub_rule.specs.Rule.{begun, member_view}
@@ -31,5 +31,5 @@ returns-clause-empty g c = ap (λ v. v.items) c.replace-own.ensures.after ∙ c.
 
 pub returns-clause-thread : goal.returns-clause-thread
 returns-clause-thread g c = let s = c.split_off-seat.ensures.seat in
-    (λ j. known_as (s.0 j) c.args.number (s.1 j) (c.new-entries.ensures.items j) false 0)
-    ∙ (λ j. known_as c.args.root.now.table_id c.args.number (record { world = c.requires.world j; kind = Member; number = 0; part = first_part (c.requires.version j) (c.requires.next.0 j) (begun g.U.Uses.begin (c.requires.next.0 j) (c.requires.world j)); child = No; next = 0; back = [] }, []) [] false 0)
+    (λ j. known_as (s.0 j) c.args.number (s.1 j) (c.new-entries.ensures.items j) (record { lost = false; capacity = c.new-entries.ensures.capacity j }) 0)
+    ∙ (λ j. known_as c.args.root.now.table_id c.args.number (record { world = c.requires.world j; kind = Member; number = 0; part = first_part (c.requires.version j) (c.requires.next.0 j) (begun g.U.Uses.begin (c.requires.next.0 j) (c.requires.world j)); child = No; next = 0; back = [] }, []) [] (free_space 0) 0)

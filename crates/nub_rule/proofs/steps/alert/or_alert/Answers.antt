@@ -1,7 +1,7 @@
 use Rattle.std.proofs.Common.{Bool, rules, arith, ◌≡◌, ◌∙◌, ◌∷◌, ◌++◌, [], ℕ, ap, sym, subst, refl}
 use Rattle.larch_actions.specs.declared.event.Life.{Life}
 use Rattle.nub_rule.specs.declared.view.Pen.{Pen}
-use Rattle.nub_rule.specs.Known.{known_as, Makes}
+use Rattle.nub_rule.specs.Known.{known_as, Makes, space_of}
 use Rattle.nub_rule.specs.Parts.{made, MayRecord}
 use Rattle.nub_rule.specs.Plays.{Grows, alert_event}
 use Rattle.nub_rule.proofs.Naming.{thread_low}
@@ -22,8 +22,8 @@ invariant_of-me g c = let t : ℕ = c.args.t.0 in let i = c.me.invariant in fit_
 
 pub returns-clause-event : goal.returns-clause-event
 returns-clause-event g c = let t : ℕ = c.args.t.0 in let i = c.me.invariant in let u = (c.fetch_or-found.ensures.2 t (thread_low _ _ _ _ c.p.view_is c.p.invariant.laid_out c.p.invariant.lawful t c.requires.named) c.alert_word.ensures) in
-    as_known (λ z m a. Makes (alert_event a.number t) a (known_as z c.me.inside.number m c.me.inside.entries.items c.me.inside.lost c.me.inside.next)) _ _ _ _ _ c.me.inside.seat.me _ _ _ c.me.view_is c.fetch_or-found.ensures.0 u.2
+    as_known (λ z m a. Makes (alert_event a.number t) a (known_as z c.me.inside.number m c.me.inside.entries.items (space_of c.me.inside.entries c.me.inside.lost) c.me.inside.next)) _ _ _ _ _ c.me.inside.seat.me _ _ _ c.me.view_is c.fetch_or-found.ensures.0 u.2
     (u.0, subst (λ (n : ℕ). Grows n c.me.inside.seat.me.0.part u.0 (alert_event n t)) i.numbered u.1, (λ j. (c.me.inside.seat.me.0.part.seen ++ u.0) ++ alert_event (i.numbered j) t ∷ []), (λ j. c.me.inside.seat.me.0.part.mine ++ alert_event (i.numbered j) t ∷ []), refl)
 
 pub returns-clause-alerted : goal.returns-clause-alerted
-returns-clause-alerted g c = let t : ℕ = c.args.t.0 in as_known (λ z m a. let k = known_as z c.me.inside.number m c.me.inside.entries.items c.me.inside.lost c.me.inside.next in k ≡ record a { part = record a.part { seen = k.seen; mine = k.mine; places = k.places; pen = made a.pen } }) _ _ _ _ _ c.me.inside.seat.me _ _ _ c.me.view_is c.fetch_or-found.ensures.0 (c.fetch_or-found.ensures.2 t (thread_low _ _ _ _ c.p.view_is c.p.invariant.laid_out c.p.invariant.lawful t c.requires.named) c.alert_word.ensures).2 refl
+returns-clause-alerted g c = let t : ℕ = c.args.t.0 in as_known (λ z m a. let k = known_as z c.me.inside.number m c.me.inside.entries.items (space_of c.me.inside.entries c.me.inside.lost) c.me.inside.next in k ≡ record a { part = record a.part { seen = k.seen; mine = k.mine; places = k.places; pen = made a.pen } }) _ _ _ _ _ c.me.inside.seat.me _ _ _ c.me.view_is c.fetch_or-found.ensures.0 (c.fetch_or-found.ensures.2 t (thread_low _ _ _ _ c.p.view_is c.p.invariant.laid_out c.p.invariant.lawful t c.requires.named) c.alert_word.ensures).2 refl

@@ -1,7 +1,7 @@
 use Rattle.std.proofs.Common.{Bool, false, rules, arith, ◌≡◌, ◌<◌, ◌∙◌, ℕ, ap, sym, subst, refl}
 use Rattle.larch_actions.specs.declared.event.Life.{Life}
 use Rattle.nub_rule.specs.declared.view.Pen.{Pen}
-use Rattle.nub_rule.specs.Known.{known_as}
+use Rattle.nub_rule.specs.Known.{known_as, space_of}
 use Rattle.nub_rule.specs.Parts.{made, MayRecord}
 use Rattle.nub_rule.specs.Places.{alert_at, most_threads}
 use Rattle.nub_rule.specs.Plays.{alert_p_raise_event}
@@ -29,4 +29,4 @@ returns-clause-event g c = let u = c.fetch_and.ensures.2 c.args.s.0 refl in
     recorded_event (λ n. alert_p_raise_event n c.args.s.0) (λ q. record q { alerted = false }) _ _ c.me.inside.number _ _ c.me.inside.seat.me c.fetch_and.new.seat.me c.args.me.now (u.1, u.2, u.3) c.me.view_is c.fetch_and.ensures.0 c.me.invariant.numbered (λ q. refl) (λ q. refl) (λ q. refl)
 
 pub returns-clause-cleared : goal.returns-clause-cleared
-returns-clause-cleared g c = as_known (λ z m a. let k = known_as z c.me.inside.number m c.me.inside.entries.items c.me.inside.lost c.me.inside.next in k ≡ record a { part = record a.part { seen = k.seen; mine = k.mine; places = k.places; alerted = false; pen = made a.pen } }) _ _ _ _ _ c.me.inside.seat.me _ _ _ c.me.view_is c.fetch_and.ensures.0 (c.fetch_and.ensures.2 c.args.s.0 refl).3 refl
+returns-clause-cleared g c = as_known (λ z m a. let k = known_as z c.me.inside.number m c.me.inside.entries.items (space_of c.me.inside.entries c.me.inside.lost) c.me.inside.next in k ≡ record a { part = record a.part { seen = k.seen; mine = k.mine; places = k.places; alerted = false; pen = made a.pen } }) _ _ _ _ _ c.me.inside.seat.me _ _ _ c.me.view_is c.fetch_and.ensures.0 (c.fetch_and.ensures.2 c.args.s.0 refl).3 refl

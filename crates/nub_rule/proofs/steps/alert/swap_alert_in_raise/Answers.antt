@@ -2,7 +2,7 @@ use Rattle.std.proofs.Common.{Bool, None, false, rules, arith, ◌≡◌, ◌<�
 use lib.ListN.{get_elem?}
 use Rattle.larch_actions.specs.declared.event.Life.{Life}
 use Rattle.nub_rule.specs.declared.view.Pen.{Pen}
-use Rattle.nub_rule.specs.Known.{known_as}
+use Rattle.nub_rule.specs.Known.{known_as, space_of}
 use Rattle.nub_rule.specs.Parts.{made, MayRecord}
 use Rattle.nub_rule.specs.Places.{alert_at, most_threads}
 use Rattle.nub_rule.specs.Plays.{alert_raise_event}
@@ -31,4 +31,4 @@ returns-clause-event g c = let u = c.swap.ensures.2 c.requires.waits.0 (ap (λ k
     recorded_event (λ n. alert_raise_event n c.args.m.0 c.args.c.0) (λ q. record q { wait = None; alerted = false }) _ _ c.me.inside.number _ _ c.me.inside.seat.me c.swap.new.seat.me c.args.me.now (subst (λ (t : ℕ × ℕ). HistoryItem (λ n. alert_raise_event n t.0 t.1) (λ q. record q { wait = None; alerted = false }) c.me.inside.seat.me c.swap.new.seat.me) (λ j. (c.requires.waits.2 j, c.requires.waits.3 j)) (u.1, u.2, u.3)) c.me.view_is c.swap.ensures.0 c.me.invariant.numbered (λ q. refl) (λ q. refl) (λ q. refl)
 
 pub returns-clause-raised : goal.returns-clause-raised
-returns-clause-raised g c = let x = c.requires.waits in as_known (λ z m a. let k = known_as z c.me.inside.number m c.me.inside.entries.items c.me.inside.lost c.me.inside.next in k ≡ record a { part = record a.part { seen = k.seen; mine = k.mine; places = k.places; wait = None; alerted = false; pen = made a.pen } }) _ _ _ _ _ c.me.inside.seat.me _ _ _ c.me.view_is c.swap.ensures.0 (c.swap.ensures.2 x.0 (ap (λ k. k.wait) c.me.view_is ∙ x.1)).3 refl
+returns-clause-raised g c = let x = c.requires.waits in as_known (λ z m a. let k = known_as z c.me.inside.number m c.me.inside.entries.items (space_of c.me.inside.entries c.me.inside.lost) c.me.inside.next in k ≡ record a { part = record a.part { seen = k.seen; mine = k.mine; places = k.places; wait = None; alerted = false; pen = made a.pen } }) _ _ _ _ _ c.me.inside.seat.me _ _ _ c.me.view_is c.swap.ensures.0 (c.swap.ensures.2 x.0 (ap (λ k. k.wait) c.me.view_is ∙ x.1)).3 refl

@@ -1,7 +1,7 @@
 use Rattle.std.proofs.Common.{Bool, rules, arith, ◌≡◌, ◌<◌, ◌+◌, ◌∙◌, [], ℕ, ap, sym, subst, refl, None}
 use Rattle.larch_actions.specs.declared.event.Life.{Life}
 use Rattle.nub_rule.specs.declared.view.Pen.{Pen}
-use Rattle.nub_rule.specs.Known.{known_as}
+use Rattle.nub_rule.specs.Known.{known_as, space_of}
 use Rattle.nub_rule.specs.Parts.{made, MayRecord}
 use Rattle.nub_rule.specs.Plays.{event, broadcast_action}
 use Rattle.nub_rule.proofs.Naming.{cond_low}
@@ -29,4 +29,4 @@ returns-clause-event g c = let u = c.fetch_add.ensures.2 c.args.c.0 c.count_word
     recorded_event (λ n. event n (broadcast_action c.args.c.0 [])) (λ q. record q { left = []; count = q.count + 1; calling = None }) _ _ c.me.inside.number _ _ c.me.inside.seat.me c.fetch_add.new.seat.me c.args.me.now (u.2, u.3, u.4) c.me.view_is c.fetch_add.ensures.0 c.me.invariant.numbered (λ q. refl) (λ q. refl) (λ q. refl)
 
 pub returns-clause-advanced : goal.returns-clause-advanced
-returns-clause-advanced g c = as_known (λ z m a. let k = known_as z c.me.inside.number m c.me.inside.entries.items c.me.inside.lost c.me.inside.next in k ≡ record a { part = record a.part { seen = k.seen; mine = k.mine; places = k.places; left = []; count = a.count + 1; calling = None; pen = made a.pen } }) _ _ _ _ _ c.me.inside.seat.me _ _ _ c.me.view_is c.fetch_add.ensures.0 (c.fetch_add.ensures.2 c.args.c.0 c.count_word.ensures).4 refl
+returns-clause-advanced g c = as_known (λ z m a. let k = known_as z c.me.inside.number m c.me.inside.entries.items (space_of c.me.inside.entries c.me.inside.lost) c.me.inside.next in k ≡ record a { part = record a.part { seen = k.seen; mine = k.mine; places = k.places; left = []; count = a.count + 1; calling = None; pen = made a.pen } }) _ _ _ _ _ c.me.inside.seat.me _ _ _ c.me.view_is c.fetch_add.ensures.0 (c.fetch_add.ensures.2 c.args.c.0 c.count_word.ensures).4 refl

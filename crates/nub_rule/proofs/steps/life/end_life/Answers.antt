@@ -1,10 +1,9 @@
 use Rattle.std.proofs.Common.{Bool, arith, ◌≡◌, ◌∙◌, ap, sym, subst, refl}
-use lib.ListN.{get_elem?}
 use Rattle.larch_actions.specs.declared.event.Life.{Life}
 use Rattle.larch_actions.specs.declared.event.Life.TheVariants.{Ended}
 use Rattle.nub_rule.specs.declared.view.Pen.{Pen}
 use Rattle.nub_rule.specs.declared.view.Part.{Part}
-use Rattle.nub_rule.specs.Known.{known_as}
+use Rattle.nub_rule.specs.Known.{known_as, space_of}
 use Rattle.nub_rule.specs.Parts.{HasNothing, made, MayRecord}
 use Rattle.nub_rule.specs.Places.{life_at}
 use Rattle.nub_rule.specs.Plays.{end_event}
@@ -29,4 +28,4 @@ pub returns-clause-event : goal.returns-clause-event
 returns-clause-event g c = recorded_event (λ n. end_event n) (λ q. record q { life = Ended }) _ _ c.me.inside.number _ _ c.me.inside.seat.me c.store.new.seat.me c.args.me.now c.store.ensures.2 c.me.view_is c.store.ensures.0 c.me.invariant.numbered (λ q. refl) (λ q. refl) (λ q. refl)
 
 pub returns-clause-ended : goal.returns-clause-ended
-returns-clause-ended g c = as_known (λ z m a. let k = known_as z c.me.inside.number m c.me.inside.entries.items c.me.inside.lost c.me.inside.next in k ≡ record a { part = record a.part { seen = k.seen; mine = k.mine; places = k.places; life = Ended; pen = made a.pen } }) _ _ _ _ _ c.me.inside.seat.me _ _ _ c.me.view_is c.store.ensures.0 c.store.ensures.2.2 refl
+returns-clause-ended g c = as_known (λ z m a. let k = known_as z c.me.inside.number m c.me.inside.entries.items (space_of c.me.inside.entries c.me.inside.lost) c.me.inside.next in k ≡ record a { part = record a.part { seen = k.seen; mine = k.mine; places = k.places; life = Ended; pen = made a.pen } }) _ _ _ _ _ c.me.inside.seat.me _ _ _ c.me.view_is c.store.ensures.0 c.store.ensures.2.2 refl

@@ -2,7 +2,7 @@ use Rattle.std.proofs.Common.{Bool, arith, ◌≡◌, ◌∙◌, ◌∷◌, ◌+
 use Rattle.larch_actions.specs.declared.event.Life.{Life}
 use Rattle.nub_rule.specs.declared.view.Child.TheVariants.{Forked}
 use Rattle.nub_rule.specs.declared.view.Pen.{Pen}
-use Rattle.nub_rule.specs.Known.{known_as, Makes}
+use Rattle.nub_rule.specs.Known.{known_as, Makes, space_of}
 use Rattle.nub_rule.specs.Parts.{made, MayRecord}
 use Rattle.nub_rule.specs.Plays.{Grows, recorded, fork_event}
 use Rattle.nub_rule.proofs.Seen.{as_known}
@@ -25,11 +25,11 @@ invariant_of-me g c = let u = c.store.ensures.2 c.args.who.0 c.requires.few c.li
 
 pub returns-clause-event : goal.returns-clause-event
 returns-clause-event g c = let t : ℕ = c.args.who.0 in let i = c.me.invariant in let u = c.store.ensures.2 t c.requires.few c.life_word.ensures in
-    as_known (λ z m a. Makes (fork_event a.number t) a (known_as z c.me.inside.number m c.me.inside.entries.items c.me.inside.lost c.me.inside.next)) _ _ _ _ _ c.me.inside.seat.me _ _ _ c.me.view_is c.store.ensures.0 u.3
+    as_known (λ z m a. Makes (fork_event a.number t) a (known_as z c.me.inside.number m c.me.inside.entries.items (space_of c.me.inside.entries c.me.inside.lost) c.me.inside.next)) _ _ _ _ _ c.me.inside.seat.me _ _ _ c.me.view_is c.store.ensures.0 u.3
     (u.1, subst (λ (n : ℕ). Grows n c.me.inside.seat.me.0.part u.1 (fork_event n t)) i.numbered u.2, (λ j. (c.me.inside.seat.me.0.part.seen ++ u.1) ++ fork_event (i.numbered j) t ∷ []), (λ j. c.me.inside.seat.me.0.part.mine ++ fork_event (i.numbered j) t ∷ []), refl)
 
 pub returns-clause-forked : goal.returns-clause-forked
-returns-clause-forked g c = let t : ℕ = c.args.who.0 in as_known (λ z m a. let k = known_as z c.me.inside.number m c.me.inside.entries.items c.me.inside.lost c.me.inside.next in k ≡ record a { part = record a.part { seen = k.seen; mine = k.mine; places = k.places; pen = made a.pen }; child = Forked t k.seen }) _ _ _ _ _ c.me.inside.seat.me _ _ _ c.me.view_is c.store.ensures.0 (c.store.ensures.2 t c.requires.few c.life_word.ensures).3 refl
+returns-clause-forked g c = let t : ℕ = c.args.who.0 in as_known (λ z m a. let k = known_as z c.me.inside.number m c.me.inside.entries.items (space_of c.me.inside.entries c.me.inside.lost) c.me.inside.next in k ≡ record a { part = record a.part { seen = k.seen; mine = k.mine; places = k.places; pen = made a.pen }; child = Forked t k.seen }) _ _ _ _ _ c.me.inside.seat.me _ _ _ c.me.view_is c.store.ensures.0 (c.store.ensures.2 t c.requires.few c.life_word.ensures).3 refl
 
 pub returns-clause-apart : goal.returns-clause-apart
 returns-clause-apart g c e = let u = c.store.ensures.2 c.args.who.0 c.requires.few c.life_word.ensures in

@@ -4,7 +4,7 @@ use lib.ListN.{get_elem?}
 use Rattle.larch_actions.specs.Sets.{without}
 use Rattle.nub_rule.specs.declared.rule.Slot.TheVariants.{Value, Queue}
 use Rattle.nub_rule.specs.Items.{no_queue}
-use Rattle.nub_rule.specs.Known.{known_as, value_in}
+use Rattle.nub_rule.specs.Known.{known_as, value_in, space_of}
 use Rattle.nub_rule.specs.Places.{value_at}
 use Rattle.nub_rule.specs.Plays.{quieted}
 use Rattle.nub_rule.proofs.Naming.{mutex_low}
@@ -43,10 +43,10 @@ pub returns-then-found-eq0-clause-won : goal.returns-then-found-eq0-clause-won
 returns-then-found-eq0-clause-won g c = let near = mutex_low _ _ _ _ c.p.view_is c.p.invariant.laid_out c.p.invariant.lawful c.args.m.0 c.requires.named in let m : ℕ = c.args.m.0 in let i = c.me.invariant in let u = (c.compare_exchange-found.ensures.2 m c.mutex_bit.ensures).0 c.if-found-eq0.true in
     let found = find-here (value_at m) (value_at m, Value (Some u.0)) c.me.inside.seat.me.1 refl in
     let v = values-set m (Some (Some u.0)) c.me.inside.seat.me.1 ((value_at m, Value (Some u.0)) ∷ c.me.inside.seat.me.1) near (ap value_in found) (λ k ne. find-else (value_at k) (value_at m, Value (Some u.0)) c.me.inside.seat.me.1 (λ z. ne (omega arith))) in
-    let r = as_known (λ z m' a. let b = known_as z c.me.inside.number m' c.me.inside.entries.items c.me.inside.lost c.me.inside.next in (get_elem? b.held m ≡ some (Some u.0)) × (get_elem? b.values m ≡ some (Some (Some u.0))) × (b ≡ record a { part = record a.part { held = set a.held m (Some u.0); wait = quieted a.wait; failed = without m a.failed; turns = without m a.turns }; values = set a.values m (Some (Some u.0)) }) × ((w : g.row.U-World.Denot) (s : g.row.U-Share.Denot) → a.world ≡ Some w → a.share ≡ Some s → g.U.Uses.fits w m u.0 a.number s)) _ _ _ _ _ c.me.inside.seat.me _ _ _ c.me.view_is c.compare_exchange-found.ensures.0 u.4 (
+    let r = as_known (λ z m' a. let b = known_as z c.me.inside.number m' c.me.inside.entries.items (space_of c.me.inside.entries c.me.inside.lost) c.me.inside.next in (get_elem? b.held m ≡ some (Some u.0)) × (get_elem? b.values m ≡ some (Some (Some u.0))) × (b ≡ record a { part = record a.part { held = set a.held m (Some u.0); wait = quieted a.wait; failed = without m a.failed; turns = without m a.turns }; values = set a.values m (Some (Some u.0)) }) × ((w : g.row.U-World.Denot) (s : g.row.U-Share.Denot) → a.world ≡ Some w → a.share ≡ Some s → g.U.Uses.fits w m u.0 a.number s)) _ _ _ _ _ c.me.inside.seat.me _ _ _ c.me.view_is c.compare_exchange-found.ensures.0 u.4 (
       u.3,
       value-there m (Some u.0) ((value_at m, Value (Some u.0)) ∷ c.me.inside.seat.me.1) near found,
-      (λ j. record (known_as c.me.inside.seat.table_id c.me.inside.number c.me.inside.seat.me c.me.inside.entries.items c.me.inside.lost c.me.inside.next) { part = record c.me.inside.seat.me.0.part { held = set c.me.inside.seat.me.0.part.held m (Some u.0); wait = quieted c.me.inside.seat.me.0.part.wait; failed = without m c.me.inside.seat.me.0.part.failed; turns = without m c.me.inside.seat.me.0.part.turns }; values = v j }),
+      (λ j. record (known_as c.me.inside.seat.table_id c.me.inside.number c.me.inside.seat.me c.me.inside.entries.items (space_of c.me.inside.entries c.me.inside.lost) c.me.inside.next) { part = record c.me.inside.seat.me.0.part { held = set c.me.inside.seat.me.0.part.held m (Some u.0); wait = quieted c.me.inside.seat.me.0.part.wait; failed = without m c.me.inside.seat.me.0.part.failed; turns = without m c.me.inside.seat.me.0.part.turns }; values = v j }),
       λ w s world share. subst (λ (n : ℕ). g.U.Uses.fits w m u.0 n s) i.numbered (u.1 w s world share),
     ) in
     λ _. (u.0, r.0, r.1, r.2, r.3)

@@ -3,7 +3,7 @@ use Rattle.larch_actions.specs.Sets.{without}
 use Rattle.larch_actions.specs.declared.event.Life.{Life}
 use Rattle.nub_rule.specs.declared.rule.Slot.TheVariants.{Value, Queue}
 use Rattle.nub_rule.specs.Items.{no_queue}
-use Rattle.nub_rule.specs.Known.{known_as, Makes}
+use Rattle.nub_rule.specs.Known.{known_as, Makes, space_of}
 use Rattle.nub_rule.specs.Parts.{made}
 use Rattle.nub_rule.specs.Places.{value_at}
 use Rattle.nub_rule.proofs.Naming.{mutex_low}
@@ -50,7 +50,7 @@ invariant_of-me-else-found-eq0 g c = let m : ℕ = c.args.m.0 in let i = c.me.in
 
 pub returns-then-found-eq0-clause-event : goal.returns-then-found-eq0-clause-event
 returns-then-found-eq0-clause-event g c = let m : ℕ = c.args.m.0 in let i = c.me.invariant in let u = (c.compare_exchange-found.ensures.2 m c.mutex_bit.ensures).0 c.if-found-eq0.true in let is_event = sym (by_taking c.me.inside.seat.me.0.number m c.me.inside.seat.me.0.part.wait c.args.e (subst (λ (z : ℕ × Opt Wait). MayTake z.0 m z.1 c.args.e) (λ j. ((sym (c.me.invariant.numbered ∙ ap (λ k. k.number) c.me.view_is)) j, ap (λ k. k.wait) (sym c.me.view_is) j)) c.requires.may)) in
-    λ _. as_known (λ z m' a. Makes c.args.e a (known_as z c.me.inside.number m' c.me.inside.entries.items c.me.inside.lost c.me.inside.next)) _ _ _ _ _ c.me.inside.seat.me _ _ _ c.me.view_is c.compare_exchange-found.ensures.0 u.6
+    λ _. as_known (λ z m' a. Makes c.args.e a (known_as z c.me.inside.number m' c.me.inside.entries.items (space_of c.me.inside.entries c.me.inside.lost) c.me.inside.next)) _ _ _ _ _ c.me.inside.seat.me _ _ _ c.me.view_is c.compare_exchange-found.ensures.0 u.6
     (u.1, subst (λ (z : ℕ × Event). Grows z.0 c.me.inside.seat.me.0.part u.1 z.1) (λ j. (i.numbered j, is_event j)) u.3, (λ j. (c.me.inside.seat.me.0.part.seen ++ u.1) ++ is_event j ∷ []), (λ j. c.me.inside.seat.me.0.part.mine ++ is_event j ∷ []), refl)
 
 pub returns-then-found-eq0-clause-lacked : goal.returns-then-found-eq0-clause-lacked
@@ -60,10 +60,10 @@ pub returns-then-found-eq0-clause-won : goal.returns-then-found-eq0-clause-won
 returns-then-found-eq0-clause-won g c = let near = mutex_low _ _ _ _ c.p.view_is c.p.invariant.laid_out c.p.invariant.lawful c.args.m.0 c.requires.named in let m : ℕ = c.args.m.0 in let i = c.me.invariant in let u = (c.compare_exchange-found.ensures.2 m c.mutex_bit.ensures).0 c.if-found-eq0.true in
     let found = find-here (value_at m) (value_at m, Value (Some u.0)) c.me.inside.seat.me.1 refl in
     let v = values-set m (Some (Some u.0)) c.me.inside.seat.me.1 ((value_at m, Value (Some u.0)) ∷ c.me.inside.seat.me.1) near (ap value_in found) (λ k ne. find-else (value_at k) (value_at m, Value (Some u.0)) c.me.inside.seat.me.1 (λ z. ne (omega arith))) in
-    let r = as_known (λ z m' a. let b = known_as z c.me.inside.number m' c.me.inside.entries.items c.me.inside.lost c.me.inside.next in (get_elem? b.held m ≡ some (Some u.0)) × (get_elem? b.values m ≡ some (Some (Some u.0))) × (b ≡ record a { part = record a.part { seen = b.seen; mine = b.mine; places = b.places; held = set a.held m (Some u.0); wait = None; failed = without m a.failed; turns = without m a.turns; pen = made a.pen }; values = set a.values m (Some (Some u.0)) }) × ((w : g.row.U-World.Denot) (s : g.row.U-Share.Denot) → a.world ≡ Some w → a.share ≡ Some s → g.U.Uses.fits w m u.0 a.number s)) _ _ _ _ _ c.me.inside.seat.me _ _ _ c.me.view_is c.compare_exchange-found.ensures.0 u.6 (
+    let r = as_known (λ z m' a. let b = known_as z c.me.inside.number m' c.me.inside.entries.items (space_of c.me.inside.entries c.me.inside.lost) c.me.inside.next in (get_elem? b.held m ≡ some (Some u.0)) × (get_elem? b.values m ≡ some (Some (Some u.0))) × (b ≡ record a { part = record a.part { seen = b.seen; mine = b.mine; places = b.places; held = set a.held m (Some u.0); wait = None; failed = without m a.failed; turns = without m a.turns; pen = made a.pen }; values = set a.values m (Some (Some u.0)) }) × ((w : g.row.U-World.Denot) (s : g.row.U-Share.Denot) → a.world ≡ Some w → a.share ≡ Some s → g.U.Uses.fits w m u.0 a.number s)) _ _ _ _ _ c.me.inside.seat.me _ _ _ c.me.view_is c.compare_exchange-found.ensures.0 u.6 (
       u.5,
       value-there m (Some u.0) ((value_at m, Value (Some u.0)) ∷ c.me.inside.seat.me.1) near found,
-      (λ j. record (known_as c.me.inside.seat.table_id c.me.inside.number c.me.inside.seat.me c.me.inside.entries.items c.me.inside.lost c.me.inside.next) { part = record c.me.inside.seat.me.0.part { seen = (c.me.inside.seat.me.0.part.seen ++ u.1) ++ event c.me.inside.seat.me.0.number (taken_action m c.me.inside.seat.me.0.part.wait) ∷ []; mine = c.me.inside.seat.me.0.part.mine ++ event c.me.inside.seat.me.0.number (taken_action m c.me.inside.seat.me.0.part.wait) ∷ []; places = c.me.inside.seat.me.0.part.places ++ length (c.me.inside.seat.me.0.part.seen ++ u.1) ∷ []; held = set c.me.inside.seat.me.0.part.held m (Some u.0); wait = None; failed = without m c.me.inside.seat.me.0.part.failed; turns = without m c.me.inside.seat.me.0.part.turns; pen = made c.me.inside.seat.me.0.part.pen }; values = v j }),
+      (λ j. record (known_as c.me.inside.seat.table_id c.me.inside.number c.me.inside.seat.me c.me.inside.entries.items (space_of c.me.inside.entries c.me.inside.lost) c.me.inside.next) { part = record c.me.inside.seat.me.0.part { seen = (c.me.inside.seat.me.0.part.seen ++ u.1) ++ event c.me.inside.seat.me.0.number (taken_action m c.me.inside.seat.me.0.part.wait) ∷ []; mine = c.me.inside.seat.me.0.part.mine ++ event c.me.inside.seat.me.0.number (taken_action m c.me.inside.seat.me.0.part.wait) ∷ []; places = c.me.inside.seat.me.0.part.places ++ length (c.me.inside.seat.me.0.part.seen ++ u.1) ∷ []; held = set c.me.inside.seat.me.0.part.held m (Some u.0); wait = None; failed = without m c.me.inside.seat.me.0.part.failed; turns = without m c.me.inside.seat.me.0.part.turns; pen = made c.me.inside.seat.me.0.part.pen }; values = v j }),
       λ w s world share. subst (λ (n : ℕ). g.U.Uses.fits w m u.0 n s) i.numbered (u.2 w s world share),
     ) in
     λ _. (u.0, r.0, r.1, r.2, r.3)

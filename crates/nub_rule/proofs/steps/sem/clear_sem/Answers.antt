@@ -1,6 +1,6 @@
 use Rattle.std.proofs.Common.{rules, arith, ◌≡◌, ◌∙◌, ◌∷◌, ℕ, ap, sym, subst, refl}
 use Rattle.larch_actions.specs.declared.event.Life.{Life}
-use Rattle.nub_rule.specs.Known.{known_as}
+use Rattle.nub_rule.specs.Known.{known_as, space_of}
 use Rattle.nub_rule.specs.Parts.{made}
 use Rattle.nub_rule.specs.Places.{sem_object}
 use Rattle.nub_rule.proofs.Naming.{sem_low}
@@ -28,7 +28,7 @@ returns-clause-event g c = let u = c.swap.ensures.2 c.args.s.0 c.semaphore_bit.e
     recorded_event (λ n. v_event n c.args.s.0) (λ q. record q { cleared = sem_object c.args.s.0 ∷ q.cleared }) _ _ c.me.inside.number _ _ c.me.inside.seat.me c.swap.new.seat.me c.args.me.now (u.1, u.2, u.3) c.me.view_is c.swap.ensures.0 c.me.invariant.numbered (λ q. refl) (λ q. refl) (λ q. refl)
 
 pub returns-clause-cleared : goal.returns-clause-cleared
-returns-clause-cleared g c = let s : ℕ = c.args.s.0 in as_known (λ z m a. let k = known_as z c.me.inside.number m c.me.inside.entries.items c.me.inside.lost c.me.inside.next in k ≡ record a { part = record a.part { seen = k.seen; mine = k.mine; places = k.places; cleared = sem_object s ∷ a.cleared; pen = made a.pen } }) _ _ _ _ _ c.me.inside.seat.me _ _ _ c.me.view_is c.swap.ensures.0 (c.swap.ensures.2 s c.semaphore_bit.ensures).3 refl
+returns-clause-cleared g c = let s : ℕ = c.args.s.0 in as_known (λ z m a. let k = known_as z c.me.inside.number m c.me.inside.entries.items (space_of c.me.inside.entries c.me.inside.lost) c.me.inside.next in k ≡ record a { part = record a.part { seen = k.seen; mine = k.mine; places = k.places; cleared = sem_object s ∷ a.cleared; pen = made a.pen } }) _ _ _ _ _ c.me.inside.seat.me _ _ _ c.me.view_is c.swap.ensures.0 (c.swap.ensures.2 s c.semaphore_bit.ensures).3 refl
 
 pub returns-clause-found : goal.returns-clause-found
 returns-clause-found g c = (c.swap.ensures.2 c.args.s.0 c.semaphore_bit.ensures).0

@@ -2,7 +2,7 @@ use Rattle.std.proofs.Common.{arith, ◌≡◌, ◌≤◌, ◌<◌, ◌∙◌, �
 use Rattle.atomic_table.specs.Seated.{TableId}
 use Rattle.nub_rule.specs.declared.rule.Slot.TheVariants.{Queue}
 use Rattle.nub_rule.specs.Items.{queue_of}
-use Rattle.nub_rule.specs.Known.{known_as}
+use Rattle.nub_rule.specs.Known.{known_as, space_of}
 use Rattle.nub_rule.specs.Places.{most_threads, value_at}
 use Rattle.nub_rule.specs.Plays.{with_part}
 use Rattle.nub_rule.specs.Places.{spin_at}
@@ -40,5 +40,5 @@ pub returns-clause-outside : goal.returns-clause-outside
 returns-clause-outside g c = let low = object_low _ _ _ _ c.p.view_is c.p.invariant.laid_out c.p.invariant.lawful c.args.at c.requires.named in let is = c.number-o.ensures in let o : ℕ = c.number-o.result in let here : c.me.inside.seat.me.0.part.spin ≡ Some o = ap (λ k. k.spin) c.me.view_is ∙ (c.requires.inside ∙ ap (λ (z : ℕ). Some z) (sym is)) in let same = c.bring.ensures.same.2 in let h = c.me.invariant.hands in
     let first = c.bring.ensures.first _ (h.queue_in o here) in let gone_now = gone o c.bring.new.seat.me.1 _ c.bring.ensures.distinct first in
     let v = values-same c.me.inside.seat.me.1 (rest c.bring.new.seat.me.1) (λ m. gone_now.1 (value_at m) (λ z. omega arith) ∙ c.bring.ensures.hand (value_at m)) in
-    as_known (λ z m a. known_as z c.me.inside.number m c.me.inside.entries.items c.me.inside.lost c.me.inside.next ≡ record a { part = record a.part { spin = None; queue = []; left = [] } }) _ _ _ _ _ c.me.inside.seat.me _ _ _ c.me.view_is (c.swap.ensures.0 ∙ c.bring.ensures.same.0) (c.swap.ensures.2.1 ∙ (λ j. (with_part (same j) (record (same j).part { spin = None; queue = []; left = [] }), rest c.bring.new.seat.me.1)))
-    (λ j. record (known_as c.me.inside.seat.table_id c.me.inside.number c.me.inside.seat.me c.me.inside.entries.items c.me.inside.lost c.me.inside.next) { part = record c.me.inside.seat.me.0.part { spin = None; queue = []; left = [] }; values = v j })
+    as_known (λ z m a. known_as z c.me.inside.number m c.me.inside.entries.items (space_of c.me.inside.entries c.me.inside.lost) c.me.inside.next ≡ record a { part = record a.part { spin = None; queue = []; left = [] } }) _ _ _ _ _ c.me.inside.seat.me _ _ _ c.me.view_is (c.swap.ensures.0 ∙ c.bring.ensures.same.0) (c.swap.ensures.2.1 ∙ (λ j. (with_part (same j) (record (same j).part { spin = None; queue = []; left = [] }), rest c.bring.new.seat.me.1)))
+    (λ j. record (known_as c.me.inside.seat.table_id c.me.inside.number c.me.inside.seat.me c.me.inside.entries.items (space_of c.me.inside.entries c.me.inside.lost) c.me.inside.next) { part = record c.me.inside.seat.me.0.part { spin = None; queue = []; left = [] }; values = v j })

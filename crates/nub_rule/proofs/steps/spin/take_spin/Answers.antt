@@ -1,8 +1,8 @@
-use Rattle.std.proofs.Common.{rules, arith, ◌≡◌, ◌<◌, ◌∙◌, ◌∷◌, [], ℕ, ap, sym, subst, length, refl, Some, None}
+use Rattle.std.proofs.Common.{arith, ◌≡◌, ◌<◌, ◌∙◌, ◌∷◌, [], ℕ, ap, sym, subst, length, refl, Some, None}
 use Rattle.larch_actions.specs.Sets.{mem, without}
 use Rattle.nub_rule.specs.declared.rule.Slot.TheVariants.{Queue}
 use Rattle.nub_rule.specs.Items.{Small, no_queue, queue_of}
-use Rattle.nub_rule.specs.Known.{known_as}
+use Rattle.nub_rule.specs.Known.{known_as, space_of}
 use Rattle.nub_rule.specs.Objects.{object_of}
 use Rattle.nub_rule.specs.Parts.{stands_at}
 use Rattle.nub_rule.specs.Places.{most_threads, spin_at}
@@ -40,7 +40,7 @@ pub returns-then-found-eq0-clause-won : goal.returns-then-found-eq0-clause-won
 returns-then-found-eq0-clause-won g c = let o : ℕ = c.number-o.result in let u = c.compare_exchange-found.ensures.2.0 o (c.spin_word.ensures ∙ ap spin_at (sym c.number-o.ensures)) c.if-found-eq0.true in
     let low = object_low _ _ _ _ c.p.view_is c.p.invariant.laid_out c.p.invariant.lawful c.args.at c.requires.named in let is = c.number-o.ensures in
     let v = values-same c.me.inside.seat.me.1 ((o, Queue (queue_of u.0)) ∷ c.me.inside.seat.me.1) (λ m. find-else _ (o, Queue (queue_of u.0)) c.me.inside.seat.me.1 (λ z. omega arith)) in
-    λ _. as_known (λ z m a. let b = known_as z c.me.inside.number m c.me.inside.entries.items c.me.inside.lost c.me.inside.next in b ≡ record a { part = record a.part { spin = Some (object_of c.args.at); queue = b.queue; owed = []; left = b.queue; count = b.count; failed = without (object_of c.args.at) a.failed } }) _ _ _ _ _ c.me.inside.seat.me _ _ _ c.me.view_is c.compare_exchange-found.ensures.0 u.5 (λ j. record (known_as c.me.inside.seat.table_id c.me.inside.number c.me.inside.seat.me c.me.inside.entries.items c.me.inside.lost c.me.inside.next) { part = record c.me.inside.seat.me.0.part { spin = Some (is j); queue = u.0; owed = []; left = u.0; count = u.1; failed = without (is j) c.me.inside.seat.me.0.part.failed }; values = v j })
+    λ _. as_known (λ z m a. let b = known_as z c.me.inside.number m c.me.inside.entries.items (space_of c.me.inside.entries c.me.inside.lost) c.me.inside.next in b ≡ record a { part = record a.part { spin = Some (object_of c.args.at); queue = b.queue; owed = []; left = b.queue; count = b.count; failed = without (object_of c.args.at) a.failed } }) _ _ _ _ _ c.me.inside.seat.me _ _ _ c.me.view_is c.compare_exchange-found.ensures.0 u.5 (λ j. record (known_as c.me.inside.seat.table_id c.me.inside.number c.me.inside.seat.me c.me.inside.entries.items (space_of c.me.inside.entries c.me.inside.lost) c.me.inside.next) { part = record c.me.inside.seat.me.0.part { spin = Some (is j); queue = u.0; owed = []; left = u.0; count = u.1; failed = without (is j) c.me.inside.seat.me.0.part.failed }; values = v j })
 
 pub returns-then-found-eq0-clause-small : goal.returns-then-found-eq0-clause-small
 returns-then-found-eq0-clause-small g c = let u = c.compare_exchange-found.ensures.2.0 c.number-o.result (c.spin_word.ensures ∙ ap spin_at (sym c.number-o.ensures)) c.if-found-eq0.true in λ _. subst (λ m. Small most_threads m.0.part.queue) (sym u.5) u.3

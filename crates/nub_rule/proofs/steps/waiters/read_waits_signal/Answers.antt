@@ -3,7 +3,7 @@ use mathlib.Core.Logic.{dite}
 use native.Mathlib.Decide.{ℕ_discrete}
 use Rattle.larch_actions.specs.declared.event.Life.{Life}
 use Rattle.nub_rule.specs.declared.view.Pen.{Pen}
-use Rattle.nub_rule.specs.Known.{known_as}
+use Rattle.nub_rule.specs.Known.{known_as, space_of}
 use Rattle.nub_rule.specs.Parts.{made, MayRecord}
 use Rattle.nub_rule.specs.Plays.{event, signal_action}
 use Rattle.nub_rule.proofs.Naming.{cond_low}
@@ -30,7 +30,7 @@ returns-clause-event g c = let u = c.load.ensures.2 c.args.c.0 c.waits_word.ensu
 
 pub returns-clause-quiet : goal.returns-clause-quiet
 returns-clause-quiet g c = let u = c.load.ensures.2 c.args.c.0 c.waits_word.ensures in
-    λ hit. as_known (λ z m a. let k = known_as z c.me.inside.number m c.me.inside.entries.items c.me.inside.lost c.me.inside.next in k ≡ record a { part = record a.part { seen = k.seen; mine = k.mine; places = k.places; pen = made a.pen } }) _ _ _ _ _ c.me.inside.seat.me _ _ _ c.me.view_is c.load.ensures.0 (u.0 hit).2 refl
+    λ hit. as_known (λ z m a. let k = known_as z c.me.inside.number m c.me.inside.entries.items (space_of c.me.inside.entries c.me.inside.lost) c.me.inside.next in k ≡ record a { part = record a.part { seen = k.seen; mine = k.mine; places = k.places; pen = made a.pen } }) _ _ _ _ _ c.me.inside.seat.me _ _ _ c.me.view_is c.load.ensures.0 (u.0 hit).2 refl
 
 pub returns-clause-calls : goal.returns-clause-calls
 returns-clause-calls g c = let u = c.load.ensures.2 c.args.c.0 c.waits_word.ensures in
