@@ -10,7 +10,7 @@ use larch_actions::Version;
 use script_text::Line;
 
 // How many lines of the thread are left to pass after this one. There is none where this is the line itself.
-fn passed(line: &Line, thread: u32, left: u32) -> Option<u32>
+fn left_after(line: &Line, thread: u32, left: u32) -> Option<u32>
     ensures { MatchOption result ((line.now.thread.0 ≡ thread) × (left ≡ 0))
         (λ less. ((line.now.thread.0 ≡ thread) × (left ≡ less + 1)) ⊎ ((line.now.thread.0 ≢ thread) × (left ≡ less))) }
 {
@@ -28,7 +28,7 @@ pub fn place_of(lines: &[Line], thread: u32, played: u32) -> Option<usize>
 {
     let mut left = played;
     for i in 0..lines.len() {
-        let Some(less) = passed(&lines[i], thread, left) else {
+        let Some(less) = left_after(&lines[i], thread, left) else {
             return Some(i);
         };
         left = less;

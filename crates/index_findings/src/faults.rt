@@ -35,7 +35,7 @@ pub fn fault_answer(walked: &Walked, fault: Fault) -> WalkAnswer
 {
     match fault {
         Fault::Dir(path) => {
-            if walked.unlisted(path.as_str()) {
+            if walked.is_unlisted(path.as_str()) {
                 WalkAnswer::ReadFault(path)
             } else {
                 WalkAnswer::Memory

@@ -58,7 +58,7 @@ impl ReadFiles {
     }
 
     /// Gives the files away; none are left.
-    pub fn taken(&mut self, alloc: Global) -> Vec<ReadFile>
+    pub fn take_all(&mut self, alloc: Global) -> Vec<ReadFile>
         ensures files { result.items ≡ self.old.files.items }
         ensures empty { self.new.files.items ≡ [] }
         ensures bytes { self.new.bytes ≡ 0 }

@@ -39,7 +39,7 @@ enum Step {
     Fail,
 }
 
-fn taken(pending: bool, b: u8) -> Step
+fn step_of(pending: bool, b: u8) -> Step
     ensures { IsStep pending b result }
 {
     if pending {
@@ -64,7 +64,7 @@ pub fn unescape(bytes: &[u8], out: &mut Vec<u8>) -> Result<Ending, AllocError>
     out.clear();
     let mut pending = false;
     for b in bytes {
-        match taken(pending, *b) {
+        match step_of(pending, *b) {
             Step::Wait => pending = true,
             Step::Put(byte) => {
                 out.push(byte)?;

@@ -281,7 +281,7 @@ fn says_yes(ending: &Ending) -> bool
 }
 
 #[inline(always)]
-fn left(ending: &Ending) -> ThreadSet
+fn threads_left(ending: &Ending) -> ThreadSet
     ensures { result ≡ left_by ending.now }
 {
     match ending {
@@ -293,7 +293,7 @@ fn left(ending: &Ending) -> ThreadSet
 // The end of an alertable wait, and of an alertable P.
 
 #[inline(always)]
-fn resumed(mutex: MutexId, cond: CondId, raises: bool) -> Action
+fn wait_end(mutex: MutexId, cond: CondId, raises: bool) -> Action
     ensures { result ≡ (if raises then Action.AlertRaise mutex cond else Action.AlertReturn mutex cond) }
 {
     if raises {
@@ -304,7 +304,7 @@ fn resumed(mutex: MutexId, cond: CondId, raises: bool) -> Action
 }
 
 #[inline(always)]
-fn taken(sem: SemId, raises: bool) -> Action
+fn p_end(sem: SemId, raises: bool) -> Action
     ensures { result ≡ (if raises then Action.AlertPRaise sem else Action.AlertPReturn sem) }
 {
     if raises {
@@ -341,7 +341,7 @@ impl Row {
             },
             Word::Signal => Action::Signal {
                 cond: CondId(first),
-                left: left(&self.ending),
+                left: threads_left(&self.ending),
             },
             Word::Broadcast => Action::Broadcast {
                 cond: CondId(first),
@@ -356,8 +356,8 @@ impl Row {
                 mutex: MutexId(first),
                 cond: CondId(second),
             },
-            Word::AlertResume => resumed(MutexId(first), CondId(second), raises(&self.ending)),
-            Word::AlertP => taken(SemId(first), raises(&self.ending)),
+            Word::AlertResume => wait_end(MutexId(first), CondId(second), raises(&self.ending)),
+            Word::AlertP => p_end(SemId(first), raises(&self.ending)),
             Word::Fork => Action::Fork {
                 who: ThreadId(first),
             },

@@ -46,7 +46,7 @@ fn own_lines(alloc: Global, all: &[Line], t: u32) -> Result<Vec<Line>, AllocErro
 }
 
 // What the line adds to the number of the mutex.
-fn added(line: &Line, mutex: u32) -> u64
+fn amount_added(line: &Line, mutex: u32) -> u64
     ensures { result ≡ added_by line.now.operation mutex }
 {
     match line.operation {
@@ -62,7 +62,7 @@ fn sum(lines: &[Line], mutex: u32) -> u64
 {
     let mut sum = 0;
     for line in lines {
-        sum += added(line, mutex);
+        sum += amount_added(line, mutex);
     }
     sum
 }

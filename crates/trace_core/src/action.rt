@@ -71,7 +71,7 @@ fn may_stand(layout: &Layout, word: Word) -> bool
 }
 
 // Reads the threads that are left.
-fn left<'b>(bytes: &'b [u8], layout: &Layout) -> Result<(Ending, &'b [u8]), Stop>
+fn threads_left<'b>(bytes: &'b [u8], layout: &Layout) -> Result<(Ending, &'b [u8]), Stop>
     requires { IsLawful layout.now }
     ensures { Gives (λ x. (x.0, x.1.now)) result (ending_at layout.now Endings.Threads bytes.now) }
 {
@@ -106,7 +106,7 @@ fn ending<'b>(
             Ok((false, rest)) => Ok((Ending::No, rest)),
             Err(stop) => Err(stop),
         },
-        Endings::Threads => left(bytes, layout),
+        Endings::Threads => threads_left(bytes, layout),
     }
 }
 

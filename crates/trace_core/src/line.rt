@@ -6,7 +6,7 @@ ghost use Rattle.trace_core.specs.Lines.{IsPossible, named_at, event_at, end_at,
 
 use crate::action::action;
 use crate::names::number_from;
-use crate::token::{named, place_and_t};
+use crate::token::{place_and_t, word_and_name};
 use exact_text::{Stop, flag, long_number, number, word};
 use itoa::Buffer;
 use larch_actions::{Event, Layout, MOST_OBJECTS, ThreadId, Version};
@@ -99,15 +99,15 @@ fn last_counts(bytes: &[u8], version: Version, threads: u32) -> Result<(Layout, 
         (both (named_at (codes "mutexes ") (most_objects + 1) 32) (λ _. both (named_at (codes "conditions ") (most_objects + 1) 32)
         (λ _. named_at (codes "semaphores ") (most_objects + 1) 10))) bytes.now) }
 {
-    let (mutexes, rest) = match named(bytes, b"mutexes ", MOST_OBJECTS + 1, b' ') {
+    let (mutexes, rest) = match word_and_name(bytes, b"mutexes ", MOST_OBJECTS + 1, b' ') {
         Ok(read) => read,
         Err(stop) => return Err(stop),
     };
-    let (conditions, rest) = match named(rest, b"conditions ", MOST_OBJECTS + 1, b' ') {
+    let (conditions, rest) = match word_and_name(rest, b"conditions ", MOST_OBJECTS + 1, b' ') {
         Ok(read) => read,
         Err(stop) => return Err(stop),
     };
-    let (semaphores, rest) = match named(rest, b"semaphores ", MOST_OBJECTS + 1, b'\n') {
+    let (semaphores, rest) = match word_and_name(rest, b"semaphores ", MOST_OBJECTS + 1, b'\n') {
         Ok(read) => read,
         Err(stop) => return Err(stop),
     };

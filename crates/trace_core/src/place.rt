@@ -53,7 +53,7 @@ impl Place {
 
     /// Where the place's text at the front of the bytes ends, if it stands there.
     #[inline(always)]
-    pub fn passed(&self, bytes: &[u8]) -> Option<usize>
+    pub fn text_end(&self, bytes: &[u8]) -> Option<usize>
         requires { 8 ≤ length bytes.now }
         ensures text { IfSome result (Stands bytes.now 0 (decimal self.now)) }
         ensures near { IfSome result (λ end. end ≤ 8) }

@@ -48,7 +48,7 @@ pub fn place_and_t(bytes: &[u8], place: u64) -> Result<&[u8], Stop>
 }
 
 // Reads a word, and a name below the bound up to the byte that stops it.
-pub fn named<'b>(
+pub fn word_and_name<'b>(
     bytes: &'b [u8],
     before: &[u8],
     bound: u32,

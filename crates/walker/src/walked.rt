@@ -63,7 +63,7 @@ impl Walked {
     }
 
     /// Whether the directory was found and isn't listed.
-    pub fn unlisted(&self, dir: &str) -> bool
+    pub fn is_unlisted(&self, dir: &str) -> bool
         ensures { IsTrue result ↔ IsUnlisted self.now dir.now }
     {
         has_unlisted(&self.dirs, dir)

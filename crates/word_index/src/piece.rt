@@ -100,7 +100,7 @@ impl Piece {
     pub fn occurrences(&self) -> u128
         ensures { result ≡ occurrences self.now }
     {
-        self.places.counted()
+        self.places.total_count()
     }
 
     /// Whether some path is covered by both.

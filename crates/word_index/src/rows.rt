@@ -211,7 +211,7 @@ impl Rows {
     }
 
     /// The sum of their counts.
-    pub fn counted(&self) -> u128
+    pub fn total_count(&self) -> u128
         ensures { result ≡ sum_by (λ p. p.count) (flat_map (λ r. r) self.now) }
     {
         let mut sum = 0u128;

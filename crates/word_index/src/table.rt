@@ -60,7 +60,7 @@ fn word_bytes(words: &Words<'_>) -> usize {
 }
 
 // The words in their order in the map, each with its places.
-fn listed(alloc: Global, words: &Words<'_>, links: &[Link]) -> Result<Table, AllocError>
+fn list_words(alloc: Global, words: &Words<'_>, links: &[Link]) -> Result<Table, AllocError>
     requires { (f : List ℕ → List Place) × HoldPlaces words.now links.now f }
     ensures words { IfOk result (λ t. t.words ≡ map (λ k. k.now) (keys words.now)) }
     ensures places { IfOk result (λ t. (f : List ℕ → List Place) → HoldPlaces words.now links.now f → t.places ≡ map f t.words) }
@@ -119,11 +119,11 @@ pub fn table_of(alloc: Global, lows: &Strings) -> Result<Table, AllocError>
     let hasher = Keyed::by(lows.text());
     let mut words = Words::with_capacity_and_hasher(alloc, first_room(lows.bytes()), hasher)?;
     let mut links = Vec::new(alloc);
-    counted(alloc, &mut words, &mut links, lows)
+    count_into(alloc, &mut words, &mut links, lows)
 }
 
 // The same by way of a map and of links that are empty.
-fn counted<'a>(
+fn count_into<'a>(
     alloc: Global,
     words: &mut Words<'a>,
     links: &mut Vec<Link>,
@@ -135,5 +135,5 @@ fn counted<'a>(
 {
     count_files(words, links, lows)?;
     words.sort_unstable_keys()?;
-    listed(alloc, words, links.as_slice())
+    list_words(alloc, words, links.as_slice())
 }

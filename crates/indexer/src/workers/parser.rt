@@ -142,7 +142,7 @@ fn pass_files<R: Wait>(
     if !loaded.is_due(last) {
         return true;
     }
-    match pieces_of(alloc, root, loaded.taken(alloc)) {
+    match pieces_of(alloc, root, loaded.take_all(alloc)) {
         Ok(pieces) => give_pieces(rt, p, me, pieces, kept),
         Err(_) => {
             cancel(rt, p, me);

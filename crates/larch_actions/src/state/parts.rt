@@ -17,7 +17,7 @@ impl State {
         requires { t.0 < most_threads }
         ensures { IsTrue result ↔ HasBegun (spec_of self.now) t.0 what }
     {
-        is_same(self.threads[t.0 as usize], begun(what))
+        is_same(self.threads[t.0 as usize], live_state(what))
     }
 
     pub(super) fn is_waiting(&self, t: ThreadId) -> bool
@@ -151,7 +151,7 @@ impl State {
               pending = put (spec_of self.old).pending t.0 what;
             } }
     {
-        self.threads[t.0 as usize] = begun(what);
+        self.threads[t.0 as usize] = live_state(what);
     }
 
     // The life of a thread that has begun nothing.
@@ -169,7 +169,7 @@ impl State {
 }
 
 #[inline(always)]
-fn begun(what: Pending) -> ThreadState
+fn live_state(what: Pending) -> ThreadState
     ensures { result ≡ begun what }
 {
     match what {

@@ -13,7 +13,7 @@ use super::{Board, Place, Thread};
 use larch_actions::{Action, CondId, Layout, MutexId, Pending, ThreadId, ThreadSet};
 
 // The thread, which is taken out of the condition unless it stays there.
-fn thinned(thread: Thread, cond: u32, stays: bool) -> Thread
+fn leave_unless(thread: Thread, cond: u32, stays: bool) -> Thread
     ensures { result ≡ thin cond stays thread }
 {
     let place = match thread.place {
@@ -46,7 +46,7 @@ fn thin_all(threads: &mut Vec<Thread>, cond: u32, left: &ThreadSet)
     ensures { IsThinned cond (in_set left.now) threads.old.items threads.new.items }
 {
     for t in 0..threads.len() {
-        threads[t] = thinned(threads[t], cond, left.has(ThreadId(t as u32)));
+        threads[t] = leave_unless(threads[t], cond, left.has(ThreadId(t as u32)));
     }
 }
 

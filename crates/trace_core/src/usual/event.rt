@@ -22,7 +22,7 @@ pub fn usual_event(bytes: &[u8], layout: &Layout, place: &Place) -> Option<Usual
     requires { 64 ≤ length bytes.now }
     ensures { IfSome result (IsEventAt layout.now place.now bytes.now) }
 {
-    let at = place.passed(bytes)?;
+    let at = place.text_end(bytes)?;
     if !has_two(bytes, at, b" t") {
         return None;
     }

@@ -5,7 +5,7 @@ use Rattle.word_index.specs.declared.table.Table.{Table}
 use Rattle.word_index.specs.Links.{HoldPlaces, places_from}
 use Rattle.word_index.specs.Batch.{IsTableOf}
 use Rattle.word_index.proofs.WordLists.{texts_of, texts_keys, holds_reordered, table_of_map}
-use Rattle.word_index.proofs.table.counted.Goals as goal
+use Rattle.word_index.proofs.table.count_into.Goals as goal
 
 -- what both clauses say of the table
 if_table : {E : Type 0} (lows : List (List ℕ)) (r : Result Table E) (ws : List (List ℕ)) (P : (List ℕ → List Place) → Type 0)
@@ -14,8 +14,8 @@ if_table : {E : Type 0} (lows : List (List ℕ)) (r : Result Table E) (ws : List
 if_table lows (Ok t) ws P both words places = both t words places
 if_table lows (Err e) ws P both words places = tt
 
-pub listed-requires : goal.listed-requires
-listed-requires c =
+pub list_words-requires : goal.list_words-requires
+list_words-requires c =
     let lows = c.args.lows.now in
     let e = c.in_ok-sort_unstable_keys.ensures in (
       (λ w. places_from w 0 lows),
@@ -28,6 +28,6 @@ returns c =
     let lows = c.args.lows.now in
     let e = c.in_ok-sort_unstable_keys.ensures in
     let n = c.sort_unstable_keys.new.self in
-    if_table lows c.listed.result (texts_of n.entries) (λ f. HoldPlaces n c.count_files.new.links.items f)
+    if_table lows c.list_words.result (texts_of n.entries) (λ f. HoldPlaces n c.count_files.new.links.items f)
     (λ t words places. table_of_map lows c.count_files.new.words n c.count_files.new.links.items t.words t.places c.in_ok-count_files.ensures e.reordered.0 e.sorted e.unique words places)
-    (rw (texts_keys n.entries) at c.listed.ensures.words) (rw c.as_slice.ensures.value at c.listed.ensures.places)
+    (rw (texts_keys n.entries) at c.list_words.ensures.words) (rw c.as_slice.ensures.value at c.list_words.ensures.places)

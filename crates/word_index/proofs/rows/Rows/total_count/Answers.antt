@@ -2,7 +2,7 @@ use Rattle.std.proofs.Common.{◌≡◌, length, ap, sym, ◌∙◌, sum_by, ari
 use Rattle.std.specs.List.{flat_map}
 use Rattle.std.proofs.lemmas.List.{take_all}
 use Rattle.word_index.proofs.Parts.{parts_joined}
-use Rattle.word_index.proofs.rows.Rows.counted.Goals as goal
+use Rattle.word_index.proofs.rows.Rows.total_count.Goals as goal
 
 pub returns : goal.returns
 returns c =

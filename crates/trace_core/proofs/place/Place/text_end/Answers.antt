@@ -2,7 +2,7 @@ use Rattle.std.proofs.Common.{ap, arith}
 use Rattle.std.specs.Prelude.{decimal}
 use Rattle.trace_core.proofs.UsualTexts.{stands_as}
 use Rattle.trace_core.proofs.Spelling.{place_there}
-use Rattle.trace_core.proofs.place.Place.passed.Goals as goal
+use Rattle.trace_core.proofs.place.Place.text_end.Goals as goal
 
 pub returns-clause-text : goal.returns-clause-text
 returns-clause-text c =
