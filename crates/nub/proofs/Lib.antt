@@ -7,6 +7,7 @@ pub mod Knowing
 pub mod Making
 pub mod Numbered
 pub mod Places
+pub mod Roomy
 pub mod Totals
 pub mod Users
 pub mod Without
