@@ -7,11 +7,12 @@ use Rattle.std.proofs.lemmas.List.{take_more, take-append-drop}
 use Rattle.std.proofs.lemmas.Option.{slice_get_within, get_or_from_slice_get}
 use Rattle.larch_actions.specs.declared.event.Layout.{Layout}
 use Rattle.larch_actions.specs.declared.event.Version.TheVariants.{Two}
-use Rattle.nub_rule.specs.Known.{Shape}
+use Rattle.nub_rule.specs.Known.{Shape, with_room_for}
 use Rattle.nub_rule.specs.Plays.{fork_event}
 use Rattle.nub_rule.specs.Rule.{begun as first_share}
 use Rattle.nub.specs.Forks.{IsBegun}
 use Rattle.nub.specs.Rest.{AtRest, Adds, IsSame}
+use Rattle.nub.proofs.Roomy.{rest_roomy}
 use Rattle.sum_uses.specs.declared.added.Added.{Added}
 use Rattle.script_text.specs.declared.line.Line.{Line}
 use Rattle.script_text.specs.declared.line.Operation.TheVariants.{Fork}
@@ -41,6 +42,29 @@ pub forking : (p : Shape (Prim.Unit {0})) (xs : List Line) (i u : ℕ) (numbers 
 forking p xs i u numbers a b at s rest same adds held share stints =
     subst (λ (ys : List Line). IsPlaying p a.number ys numbers b) (sym (one_more xs i (fork_line a.number u) at))
     (after_quiet p (take i xs) numbers a (fork_line a.number u) s refl (Fork (record { 0 = u })) (fork_event a.number u) b refl refl (refl, refl) refl (λ m. refl) rest same adds held share stints)
+
+-- a thread that has reserved room for its events is where it was
+pub playing_roomy : (p : Shape (Prim.Unit {0})) (t : ℕ) (xs : List Line) (numbers : List ℕ) (room : ℕ) (k : Player) → IsPlaying p t xs numbers k → IsPlaying p t xs numbers (with_room_for room k)
+playing_roomy p t xs numbers room k i = record {
+  hand = i.hand;
+  line = record {
+    rest = rest_roomy p room k i.line.rest;
+    number = i.line.number;
+    world = i.line.world;
+    size = i.line.size;
+    held_size = i.line.held_size;
+    before = i.line.before;
+    visits = i.line.visits;
+    are = i.line.are;
+    mine = i.line.mine;
+    stints = i.line.stints;
+    agrees = i.line.agrees;
+    share = i.line.share;
+    is_share = i.line.is_share;
+    linked = i.line.linked;
+    each = i.line.each;
+  };
+}
 
 -- a thread that was begun has played these, of which none is its own
 pub begun : (p : Shape (Prim.Unit {0})) (xs : List Line) (u : ℕ) (numbers : List ℕ) (a k : Player) → lines_of u xs ≡ [] → ((m : ℕ) → held_after none_held xs u m ≡ false) → length numbers ≡ 64 → a.world ≡ Some tt

@@ -6,10 +6,11 @@ use Rattle.larch_actions.specs.declared.event.Event.{Event}
 use Rattle.larch_actions.specs.declared.event.Layout.{Layout}
 use Rattle.larch_actions.specs.declared.event.CondId.{CondId}
 use Rattle.larch_actions.specs.declared.event.MutexId.{MutexId}
+use Rattle.nub_rule.specs.Items.{Each}
 use Rattle.nub_rule.specs.Known.{Known, Shape}
 use Rattle.nub_rule.specs.declared.view.Stint.{Stint}
 use Rattle.nub.specs.Rest.{AtRest}
-use Rattle.nub.specs.Ended.{IsDone}
+use Rattle.nub.specs.Ended.{IsDone, IsFirst}
 use Rattle.sum_uses.specs.declared.added.Added.{Added}
 use Rattle.sum_uses.specs.Sums.{added}
 use Rattle.script_text.specs.declared.line.Line.{Line}
@@ -21,6 +22,11 @@ use Rattle.script_text.specs.Visits.{AreBelow, AreLeft, AreVisitsOf, Hand, Visit
 
 abbrev pub Player : Type 0
 Player = Known ℕ (List Added) (Prim.Unit {0})
+
+-- those that are the first threads of a package stay so
+abbrev pub StayFirst : List Player → List Player → Type 0
+StayFirst before after = (p : Shape (Prim.Unit {0})) → Each (IsFirst p (λ w n. let s : List Added = [] in s)) before
+    → Each (IsFirst p (λ w n. let s : List Added = [] in s)) after
 
 -- for the mutex m, which the thread holds or not: what the thread's lines so far have added is made
 -- up of the value got, the number now and the share

@@ -9,7 +9,7 @@ ghost use Rattle.nub_rule.specs.Items.{Each};
 ghost use Rattle.nub.specs.Ended.{IsFirst};
 ghost use Rattle.script_text.specs.Text.{IsScript};
 ghost use Rattle.script_text.specs.Runs.{AreEventsOf, total};
-ghost use Rattle.script_run.specs.Playing.{IsPlayed};
+ghost use Rattle.script_run.specs.Playing.{IsPlayed, StayFirst};
 ghost use Rattle.script_run.specs.Visited.{AreVisited};
 
 use crate::forked::run_forked;
@@ -78,7 +78,8 @@ fn with_room(
     lines: &[Line],
 ) -> Result<Vec<Thread<SumUses>>, AllocError>
     requires { length lines.now < 100000 }
-    ensures { IfOk result (λ ts. ts.items ≡ threads.items) }
+    ensures count { IfOk result (λ ts. length ts.items ≡ length threads.items) }
+    ensures threads { IfOk result (λ ts. StayFirst threads.items ts.items) }
 {
     for at in 0..threads.len() {
         let further = own_events(lines, threads[at].number());

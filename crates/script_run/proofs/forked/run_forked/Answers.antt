@@ -26,6 +26,7 @@ use Rattle.script_run.specs.Slots.{AreOver, AreReady, slot_number}
 use Rattle.script_run.proofs.Gathering.{AreBack, enough_rights, ready_first, all_ended, are_back, back_left, back_all, made_of, totals_of, below_of, over_moved, long_over}
 use Rattle.script_run.proofs.Members.{written}
 use Rattle.script_run.proofs.Pieces.{one_region}
+use Rattle.nub.proofs.Roomy.{first_roomy}
 use Rattle.script_run.proofs.Sums.{first_sums}
 use Rattle.script_run.proofs.forked.run_forked.Given.{Over}
 use Rattle.script_run.proofs.forked.run_forked.Goals as goal
@@ -56,7 +57,7 @@ ready : (g : Over) (c : After-as_mut_slice g) → AreReady c.in_ok-pkg.pkg c.lin
 ready g c =
     let xs = c.lines-lines.result.now in
     let order = below_of xs c.in_ok-order.order.items c.deref.result.now c.len-2.result c.in_ok-order.ensures c.deref.ensures.value (c.len-2.ensures ∙ c.in_ok-order.order.ok.0) in
-    let first = subst (λ (k : Player). IsFirst c.in_ok-pkg.pkg (λ w n. let s : List Added = [] in s) 0 k) (sym c.reserve.ensures) c.in_ok-pkg.ensures.first in
+    let first = subst (λ (k : Player). IsFirst c.in_ok-pkg.pkg (λ w n. let s : List Added = [] in s) 0 k) (sym c.reserve.ensures.same) (first_roomy c.in_ok-pkg.pkg c.reserve.new.self.capacity c.in_ok-pkg.first _ 0 c.in_ok-pkg.ensures.first) in
     subst (λ (z : List Slot). AreReady c.in_ok-pkg.pkg xs 0 0 z) (sym c.as_mut_slice.ensures.value)
     (ready_first c.in_ok-pkg.pkg xs c.reserve.new.self c.in_ok-pkg.rights.items (take (c.len-2.result - 1) c.deref.result.now) c.in_ok-slots.slots.items c.in_ok-slots.others.items c.in_ok-slots.ensures order first c.in_ok-pkg.ensures.rights)
 

@@ -39,15 +39,14 @@ pub play_all-requires-clause-few : goal.play_all-requires-clause-few
 play_all-requires-clause-few g c κs within = subst (λ (xs : List Line). length xs < 100000) (sym c.lines-2.ensures.lines) c.lines-2.ensures.few
 
 pub play_all-requires-clause-threads : goal.play_all-requires-clause-threads
-play_all-requires-clause-threads g c κs within n x got =
-    c.in_ok-pkg.ensures.threads n x (ap (λ l. get_elem? l n) (sym c.in_ok-roomy.ensures) ∙ got)
+play_all-requires-clause-threads g c κs within = c.in_ok-roomy.ensures.threads c.in_ok-pkg.pkg c.in_ok-pkg.ensures.threads
 
 pub close_package-requires-clause-version : goal.close_package-requires-clause-version
 close_package-requires-clause-version g c κs = ap (λ (l : Layout). l.version) (c.in_ok-pkg.ensures.package.0 ∙ c.layout-layout.ensures.layout) ∙ c.requires.version
 
 pub close_package-requires-clause-count : goal.close_package-requires-clause-count
 close_package-requires-clause-count g c κs =
-    c.in_ok-threads.ensures.count ∙ (ap length c.in_ok-roomy.ensures ∙ (c.in_ok-pkg.ensures.count ∙ ap (λ l. l.threads) (sym c.in_ok-pkg.ensures.package.0)))
+    c.in_ok-threads.ensures.count ∙ (c.in_ok-roomy.ensures.count ∙ (c.in_ok-pkg.ensures.count ∙ ap (λ l. l.threads) (sym c.in_ok-pkg.ensures.package.0)))
 
 pub close_package-requires-clause-threads : goal.close_package-requires-clause-threads
 close_package-requires-clause-threads g c κs n x got = (c.in_ok-threads.ensures.played n x got).done
@@ -65,7 +64,7 @@ returns-clause-trace g c =
     let lines = c.lines-2.ensures.lines in
     let layout = c.layout-layout.ensures.layout in
     let played = c.in_ok-threads.ensures.played in
-    let count = c.in_ok-threads.ensures.count ∙ ap length c.in_ok-roomy.ensures ∙ c.in_ok-pkg.ensures.count ∙ ap (λ l. l.threads) layout in
+    let count = c.in_ok-threads.ensures.count ∙ c.in_ok-roomy.ensures.count ∙ c.in_ok-pkg.ensures.count ∙ ap (λ l. l.threads) layout in
     if_ok c.close_package.result _ _
     (λ r w.
     let own : (t : ℕ) → t < c.args.script.now.layout.threads → AreEventsOf c.args.script.now.layout.version c.args.script.now.lines t (by_thread t w.0) = λ t low.
@@ -86,7 +85,7 @@ returns-clause-values g c =
     let layout = c.layout-layout.ensures.layout in
     let same = c.in_ok-pkg.ensures.package.0 ∙ layout in
     let played = c.in_ok-threads.ensures.played in
-    let count = c.in_ok-threads.ensures.count ∙ ap length c.in_ok-roomy.ensures ∙ c.in_ok-pkg.ensures.count ∙ ap (λ l. l.threads) layout in
+    let count = c.in_ok-threads.ensures.count ∙ c.in_ok-roomy.ensures.count ∙ c.in_ok-pkg.ensures.count ∙ ap (λ l. l.threads) layout in
     let script = c.lines-2.ensures.script in
     let F : List Line → Type 0 = λ xs. MayFollow c.args.script.now.layout none_held none_forked xs in
     if_ok c.close_package.result _ _
@@ -104,7 +103,7 @@ returns-clause-visits g c =
     let layout = c.layout-layout.ensures.layout in
     let same = c.in_ok-pkg.ensures.package.0 ∙ layout in
     let played = c.in_ok-threads.ensures.played in
-    let count = c.in_ok-threads.ensures.count ∙ ap length c.in_ok-roomy.ensures ∙ c.in_ok-pkg.ensures.count ∙ ap (λ l. l.threads) layout in
+    let count = c.in_ok-threads.ensures.count ∙ c.in_ok-roomy.ensures.count ∙ c.in_ok-pkg.ensures.count ∙ ap (λ l. l.threads) layout in
     let script = c.lines-2.ensures.script in
     let l = c.args.script.now.layout in
     let F : List Line → Type 0 = λ ys. MayFollow l none_held none_forked ys in
