@@ -9,7 +9,7 @@ use Rattle.script_text.specs.declared.line.Line.{Line}
 use Rattle.exact_text.specs.declared.fault.TextFault.{TextFault}
 use Rattle.exact_text.specs.declared.fault.TextFault.TheVariants as fault
 use Rattle.script_text.specs.Runs.{AreEventsOf, total}
-use Rattle.script_run.specs.Visited.{AreVisited}
+use Rattle.script_text.specs.Visited.{AreVisited}
 use Rattle.command_endings.specs.declared.status.Status.{Status}
 use Rattle.command_endings.specs.declared.status.Status.TheVariants.{Memory}
 use Rattle.command_endings.specs.Changes.{Change, IsStill}

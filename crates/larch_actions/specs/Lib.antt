@@ -3,3 +3,4 @@ pub mod Rows
 pub mod Layout
 pub mod Actions
 pub mod State
+pub mod Takers

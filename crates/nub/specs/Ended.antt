@@ -11,7 +11,8 @@ use Rattle.larch_actions.specs.Actions.{IsClosed, StartsWith, by_thread}
 use Rattle.nub_rule.specs.Known.{Known, Shape}
 use Rattle.nub_rule.specs.Items.{Each}
 use Rattle.nub_rule.specs.declared.view.Stint.{Stint}
-use Rattle.nub_rule.specs.Stints.{AreInTurn, StintsLead, givers, stinters, stints_at, stints_by, takers}
+use Rattle.larch_actions.specs.Takers.{givers, takers}
+use Rattle.nub_rule.specs.Stints.{AreInTurn, StintsLead, stinters, stints_at, stints_by}
 use Rattle.nub.specs.Rest.{AtRest}
 
 -- the layout, the last released value of each mutex, the whole history of a traced run, and each

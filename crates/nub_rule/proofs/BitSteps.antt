@@ -42,7 +42,8 @@ use Rattle.nub_rule.proofs.Penning.{either_way, pens-event, numbered-by}
 use Rattle.nub_rule.proofs.Beside.{still}
 use Rattle.nub_rule.proofs.Owing.{owes-try, owes-clear}
 use Rattle.nub_rule.proofs.Beginning.{waits-stay, begun-frame, begun-same, counted-over}
-use Rattle.nub_rule.specs.Stints.{givers, stinters}
+use Rattle.larch_actions.specs.Takers.{givers}
+use Rattle.nub_rule.specs.Stints.{stinters}
 use Rattle.nub_rule.proofs.Stinting.{GivesNone, closing-waits, given, givers-other, givers-own, stinted-gives, stinted-takes, taken-gives, with_stint}
 use Rattle.nub_rule.proofs.Handling.{same_slot}
 use Rattle.nub_rule.proofs.Owning.{lacking, owned-take, owned-give}

@@ -16,7 +16,8 @@ use Rattle.nub_rule.specs.declared.view.Stint.{Stint}
 use Rattle.nub_rule.specs.declared.view.Wait.{Wait}
 use Rattle.nub_rule.specs.Parts.{closing_on, is_closing, waits_on}
 use Rattle.nub_rule.specs.Plays.{enqueue_event, recounted, taken_action, unread}
-use Rattle.nub_rule.specs.Stints.{AreInTurn, Stinted, StintedToEnd, StintsLead, gives, givers, stinters, stints_at, stints_by}
+use Rattle.larch_actions.specs.Takers.{gives, givers}
+use Rattle.nub_rule.specs.Stints.{AreInTurn, Stinted, StintedToEnd, StintsLead, stinters, stints_at, stints_by}
 use Rattle.atomic_table.proofs.Lists.{set_here, set_else}
 use Rattle.nub_rule.proofs.Each.{at_within, each-set, put-at, put-else}
 

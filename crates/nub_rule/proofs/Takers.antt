@@ -9,7 +9,7 @@ use Rattle.larch_actions.specs.declared.event.Version.{Version}
 use Rattle.larch_actions.specs.declared.event.Action.{Action}
 use Rattle.larch_actions.specs.declared.event.Action.TheVariants.{Acquire, Release, Enqueue, Resume, AlertEnqueue, AlertReturn, AlertRaise}
 use Rattle.larch_actions.specs.Actions.{Spec, IsClosed, Leads, MeetsRequires, MeetsWhen, acted, at_first, put}
-use Rattle.nub_rule.specs.Stints.{gives, givers, takes, takers}
+use Rattle.larch_actions.specs.Takers.{gives, givers, takes, takers}
 use Rattle.nub_rule.proofs.Each.{put-at, put-else}
 
 abbrev listed : Option ℕ → List ℕ

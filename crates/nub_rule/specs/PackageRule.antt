@@ -27,7 +27,8 @@ use Rattle.nub_rule.specs.declared.view.WaitBit.TheVariants.{Closing, Quiet}
 use Rattle.nub_rule.specs.Items.{Each, Distinct, queue_of, places_from}
 use Rattle.nub_rule.specs.Begun.{raisers}
 use Rattle.nub_rule.specs.declared.view.Stint.{Stint}
-use Rattle.nub_rule.specs.Stints.{AreInTurn, StintsLead, givers, stinters, stints_at, stints_by}
+use Rattle.larch_actions.specs.Takers.{givers}
+use Rattle.nub_rule.specs.Stints.{AreInTurn, StintsLead, stinters, stints_at, stints_by}
 use Rattle.nub_rule.specs.Owed.{HasTurn, IsAsleep, MustLook, SomebodyMustLook}
 use Rattle.nub_rule.specs.Parts.{Got, Has, HasNothing, IsFound, closing_on, counts_in, first_part, newborn, number_of, pending_of, unborn, waits_on}
 use Rattle.nub_rule.specs.Places.{alert_at, bit_at, cond_object, count_at, length_at, life_at, most_threads, number_at, pen_at, queue_at, ready_at, sem_object, spin_at, value_at, waits_at}

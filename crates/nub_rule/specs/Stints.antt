@@ -1,35 +1,12 @@
--- Stints: what each thread got with a mutex and left behind it, in one order that agrees with the history.
-use Rattle.std.specs.Prelude.{Bool, false, ◌≡◌, ℕ, cond, eqb, List, [], ◌∷◌, ◌++◌, filter, map, slice_set}
+-- Stints: what each thread got with a mutex and left with it, in one order that agrees with the history.
+use Rattle.std.specs.Prelude.{◌≡◌, ℕ, cond, eqb, List, [], ◌∷◌, ◌++◌, filter, map, slice_set}
 use mathlib.Core.Option.{Option, none, some}
 use lib.ListN.{get_elem?}
 use Rattle.larch_actions.specs.declared.event.Event.{Event}
-use Rattle.larch_actions.specs.declared.event.Action.{Action}
-use Rattle.larch_actions.specs.declared.event.Action.TheVariants.{Acquire, Release, Enqueue, Resume, AlertEnqueue, AlertReturn, AlertRaise}
+use Rattle.larch_actions.specs.Takers.{givers}
 use Rattle.nub_rule.specs.declared.view.Part.{Part}
 use Rattle.nub_rule.specs.declared.view.Stint.{Stint}
 use Rattle.nub_rule.specs.Parts.{closing_on}
-
--- the action gives the mutex m back
-abbrev pub gives : ℕ → Action → Bool
-gives m (Release x) = eqb x.0 m
-gives m (Enqueue x c) = eqb x.0 m
-gives m (AlertEnqueue x c) = eqb x.0 m
-gives m _ = false
-
--- and takes it
-abbrev pub takes : ℕ → Action → Bool
-takes m (Acquire x) = eqb x.0 m
-takes m (Resume x c) = eqb x.0 m
-takes m (AlertReturn x c) = eqb x.0 m
-takes m (AlertRaise x c) = eqb x.0 m
-takes m _ = false
-
--- the threads that gave the mutex m back, and those that took it, in order
-abbrev pub givers : ℕ → List Event → List ℕ
-givers m log = map (λ e. e.thread.0) (filter (λ e. gives m e.action) log)
-
-abbrev pub takers : ℕ → List Event → List ℕ
-takers m log = map (λ e. e.thread.0) (filter (λ e. takes m e.action) log)
 
 module _ {T H : Type 0} where
   -- the stints of the thread n, those with the mutex m, and the threads of these

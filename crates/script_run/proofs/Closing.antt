@@ -22,7 +22,7 @@ use Rattle.sum_uses.specs.Sums.{added, total as share_total, AreSums}
 use Rattle.script_text.specs.declared.line.Line.{Line}
 use Rattle.script_text.specs.Operations.{none_held, MayFollow, none_forked, forked_after, is_born}
 use Rattle.script_run.specs.Playing.{Player, AreLinked, IsPlayed, visit_of, visits_of}
-use Rattle.script_run.specs.Visited.{AreVisited}
+use Rattle.script_text.specs.Visited.{AreVisited}
 use Rattle.script_text.specs.Runs.{AreCallsAndEnd, AreEventsOf, AreRows, lines_of, total}
 use Rattle.script_text.specs.Visits.{AreLeft, AreThreadVisits, AreVisitsAndEnd, Hand, LeadTo, Visit, no_hand, visits_at, visits_by}
 use Rattle.script_run.proofs.Sums.{shares_total, elem_at, elem_is}

@@ -2,4 +2,3 @@ pub mod Placing
 pub mod Playing
 pub mod Regions
 pub mod Slots
-pub mod Visited

@@ -9,7 +9,7 @@ ghost use Rattle.larch_actions.specs.Actions.{IsClosed, by_thread};
 ghost use Rattle.script_text.specs.Text.{IsScript};
 ghost use Rattle.script_text.specs.Runs.{AreEventsOf, total};
 ghost use Rattle.script_run.specs.Slots.{AreRegions, MayPlay, AreOver, slot_number};
-ghost use Rattle.script_run.specs.Visited.{AreVisited};
+ghost use Rattle.script_text.specs.Visited.{AreVisited};
 
 use crate::cut::cut_in_two;
 use crate::places::{ends, place};

@@ -10,7 +10,7 @@ ghost use Rattle.nub.specs.Ended.{IsFirst};
 ghost use Rattle.script_text.specs.Text.{IsScript};
 ghost use Rattle.script_text.specs.Runs.{AreEventsOf, total};
 ghost use Rattle.script_run.specs.Playing.{IsPlayed, StayFirst};
-ghost use Rattle.script_run.specs.Visited.{AreVisited};
+ghost use Rattle.script_text.specs.Visited.{AreVisited};
 
 use crate::forked::run_forked;
 use crate::play::play;

@@ -11,3 +11,4 @@ pub mod Drafts
 pub mod Finished
 pub mod Runs
 pub mod Visits
+pub mod Visited

@@ -5,7 +5,7 @@ use Rattle.command_endings.specs.Changes.{change_of}
 use Rattle.command_endings.specs.Printing.{Prints}
 use Rattle.command_endings.specs.declared.status.Status.TheVariants.{Done}
 use Rattle.larch_actions.specs.declared.event.Event.{Event}
-use Rattle.script_run.specs.Visited.{AreVisited}
+use Rattle.script_text.specs.Visited.{AreVisited}
 use Rattle.firefly.proofs.Ran.{is_trace, same_some}
 use Rattle.firefly.proofs.run_command.run_read.Goals as goal
 

@@ -8,7 +8,7 @@ use Rattle.larch_actions.specs.Actions.{IsClosed, by_thread}
 use Rattle.larch_actions.specs.Layout.{HasNames, IsLawful}
 use Rattle.script_text.specs.Runs.{AreEventsOf, total}
 use Rattle.nub.specs.Ended.{IsFirst}
-use Rattle.script_run.specs.Visited.{AreVisited}
+use Rattle.script_text.specs.Visited.{AreVisited}
 use Rattle.script_run.proofs.Closing.{events_made, if_both, if_four, visited_of, whole_same}
 use Rattle.larch_actions.specs.declared.event.Version.TheVariants.{Two}
 use Rattle.larch_actions.specs.declared.kind.Kind.TheVariants.{Thread}

@@ -15,7 +15,7 @@ use Rattle.script_text.specs.declared.line.Line.{Line}
 use Rattle.script_text.specs.Operations.{none_held, MayFollow, none_forked}
 use Rattle.script_text.specs.Runs.{AreEventsOf, total}
 use Rattle.script_text.specs.Text.{IsScript}
-use Rattle.script_run.specs.Visited.{AreVisited}
+use Rattle.script_text.specs.Visited.{AreVisited}
 use Rattle.script_run.proofs.Closing.{events_made, if_ok, if_three, played_made, values_of, visited_of, whole_same}
 use Rattle.script_run.proofs.Sums.{first_sums}
 use Rattle.script_run.proofs.run.run_all.Goals as goal

@@ -4,7 +4,7 @@ use Rattle.std.specs.Prelude.{◌≡◌, ℕ, ◌<◌, List}
 use Rattle.larch_actions.specs.declared.event.Event.{Event}
 use Rattle.larch_actions.specs.declared.event.Layout.{Layout}
 use Rattle.larch_actions.specs.Actions.{by_thread}
-use Rattle.nub_rule.specs.Stints.{givers}
+use Rattle.larch_actions.specs.Takers.{givers}
 use Rattle.script_text.specs.declared.line.Line.{Line}
 use Rattle.script_text.specs.Runs.{total}
 use Rattle.script_text.specs.Visits.{AreThreadVisits, LeadTo, Visit, visitors, visits_at, visits_by}
