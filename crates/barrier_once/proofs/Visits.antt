@@ -1,5 +1,5 @@
 -- A thread that takes a mutex and gives it back, and one at the bar.
-use Rattle.std.proofs.Common.{◌≡◌, ℕ, ◌+◌, ◌≤◌, false, zero, suc, List, [], ◌∷◌, ◌++◌, Some, None, slice_set, arith, sym, subst, ap, ◌∙◌, refl, inl, ⊎_elim}
+use Rattle.std.proofs.Common.{◌≡◌, ℕ, ◌+◌, ◌≤◌, false, zero, suc, List, [], ◌∷◌, ◌++◌, Some, None, slice_set, arith, sym, subst, ap, ◌∙◌, refl, inl, ⊎_elim, append_assoc}
 use Rattle.std.proofs.lemmas.List.{append-nil, set-set}
 use Rattle.std.proofs.lemmas.Option.{same_Some}
 use mathlib.Core.Option.{some}
@@ -15,9 +15,11 @@ use Rattle.condition.specs.Waits.{resume_event}
 use Rattle.barrier_once.specs.declared.cell.Cell.{Cell}
 use Rattle.barrier_once.specs.declared.share.RoundShare.{RoundShare}
 use Rattle.barrier_once.specs.declared.share.RoundWorld.{RoundWorld}
-use Rattle.barrier_once.specs.Calls.{Arrived, HasLeft, IsAtBar, IsPlaced, IsStay, RoundThread, Visited, waits}
+use Rattle.barrier_once.specs.Calls.{Arrived, Enters, EntersAll, HasLeft, IsAtBar, IsPlaced, IsStay, RoundThread, Visited, waits}
 use Rattle.barrier_once.specs.Cells.{round_of}
 use Rattle.barrier_once.specs.Rounds.{IsKnown, KnowsBar, MayArrive}
+use Rattle.barrier_once.specs.Walks.{RoundStint, Walks, acquires, how_many, releases}
+use Rattle.barrier_once.proofs.Walks.{waits_acquire, waits_release, walks_acquire, walks_after, walks_past, walks_release, walks_wait}
 
 -- what is true of the world and of the share of a thread is true of whatever these are said to be
 pub of_own : (P : RoundWorld → RoundShare → Type 0) (b : RoundThread) (w : RoundWorld) (s : RoundShare) → b.world ≡ Some w → b.share ≡ Some s → P w s
@@ -87,10 +89,55 @@ at_bar p at x s a b placed world share may rest same holds kept fits = record {
 }
 
 -- the thread took the bar and has left it
-pub arrived_at : (p : Shape RoundWorld) (at : RoundAt) (s : RoundShare) (a b e : RoundThread) → IsSame a b → Adds [] (acquire_event a.number at.bar.0) a b → HasLeft p at s b e → Arrived a.number at.bar.0 at.cond.0 a e
-arrived_at p at s a b e same took left =
-    let ran = left.ran in (
+pub arrived_at : (p : Shape RoundWorld) (at : RoundAt) (s : RoundShare) (a b e : RoundThread) → IsSame a b → Adds [] (acquire_event a.number at.bar.0) a b → b.stints ≡ a.stints → HasLeft p at s b e
+    → Arrived a.number at.bar.0 at.cond.0 s a e
+arrived_at p at s a b e same took none left =
+    let t = a.number in
+    let m = at.bar.0 in
+    let ran = left.ran in
+    let ss = ran.3.0 in
+    let own = subst (λ n. Walks m (s.arrivals + 1) s.left (ran.0 ++ release_event n m ∷ []) ss) same.number ran.3.2 in (
       ran.0,
-      subst (λ n. IsStay n at.bar.0 at.cond.0 ran.0) same.number ran.1,
-      came_back at.bar.0 ran.0 a b e same took ran.2,
+      subst (λ n. IsStay n m at.cond.0 ran.0) same.number ran.1,
+      came_back m ran.0 a b e same took ran.2,
+      ss,
+      ran.3.1 ∙ ap (λ l. l ++ ss) none,
+      walks_acquire t m s.arrivals s.left (ran.0 ++ release_event t m ∷ []) ss own,
     )
+
+-- the bar was given back in one stint more
+pub entered_last : (m came left : ℕ) (es : List Event) (a b e : RoundThread) (s : RoundStint) → how_many (acquires m) es ≡ 0 → how_many (releases m) es ≡ 0 → EntersAll m came left es a b
+    → e.stints ≡ b.stints ++ s ∷ [] → s.mutex ≡ m → s.after.arrivals ≤ came → s.after.left ≡ left + 1 → EntersAll m came left (es ++ release_event a.number m ∷ []) a e
+entered_last m came left es a b e s acquired released entered one mutex few more = (
+  entered.0 ++ s ∷ [],
+  one ∙ (ap (λ l. l ++ s ∷ []) entered.1 ∙ append_assoc a.stints entered.0 (s ∷ [])),
+  walks_after m came left es (release_event a.number m ∷ []) entered.0 (s ∷ []) acquired released entered.2 (walks_release a.number m came left s mutex few more),
+)
+
+-- the bar was given back in one stint by the last to arrive
+pub entered_woken : (m c came left : ℕ) (a b e : RoundThread) (s : RoundStint) → b.stints ≡ a.stints → e.stints ≡ b.stints ++ s ∷ [] → s.mutex ≡ m → s.after.arrivals ≤ came → s.after.left ≡ left + 1
+    → EntersAll m came left (event a.number (broadcast_action c []) ∷ release_event a.number m ∷ []) a e
+entered_woken m c came left a b e s none one mutex few more =
+    let t = a.number in
+    (s ∷ [], one ∙ ap (λ l. l ++ s ∷ []) none, walks_past m came left (event t (broadcast_action c [])) (release_event t m ∷ []) (s ∷ []) refl refl refl (walks_release t m came left s mutex few more))
+
+-- and in a first wait, and in one wait more
+pub entered_first : (m c came left : ℕ) (a b : RoundThread) (s : RoundStint) → b.stints ≡ a.stints ++ s ∷ [] → s.mutex ≡ m → s.after.arrivals ≤ came → EntersAll m came left (waits a.number m c 1) a b
+entered_first m c came left a b s one mutex few = (s ∷ [], one, walks_wait a.number m c came left s mutex few)
+
+pub entered_more : (m c k came left : ℕ) (a b e : RoundThread) (s : RoundStint) → EntersAll m came left (waits a.number m c k) a b → e.stints ≡ b.stints ++ s ∷ [] → s.mutex ≡ m → s.after.arrivals ≤ came
+    → EntersAll m came left (waits a.number m c (suc k)) a e
+entered_more m c k came left a b e s entered one mutex few =
+    let t = a.number in
+    let again = walks_after m came left (waits t m c k) (waits t m c 1) entered.0 (s ∷ []) (waits_acquire t m c k) (waits_release t m c k) entered.2 (walks_wait t m c came left s mutex few) in (
+      entered.0 ++ s ∷ [],
+      one ∙ (ap (λ l. l ++ s ∷ []) entered.1 ∙ append_assoc a.stints entered.0 (s ∷ [])),
+      subst (λ l. Walks m came left l (entered.0 ++ s ∷ [])) (waits_more t m c k) again,
+    )
+
+-- the thread took the mutex and gave it back in one stint
+pub entered_own : (m : ℕ) (x y z : Cell) (s : RoundShare) (f : ℕ → RoundShare) (a b e : RoundThread) → IsSame a b → b.stints ≡ a.stints → y ≡ z
+    → e.stints ≡ b.stints ++ record { thread = b.number; mutex = m; got = x; left = y; before = s; after = f b.number } ∷ [] → Enters a.number m x z s (f a.number) a e
+entered_own m x y z s f a b e same none left one =
+    let entry : ℕ → Cell → RoundStint = λ n v. record { thread = n; mutex = m; got = x; left = v; before = s; after = f n } in
+    one ∙ (ap (λ l. l ++ entry b.number y ∷ []) none ∙ (ap (λ n. a.stints ++ entry n y ∷ []) same.number ∙ ap (λ v. a.stints ++ entry a.number v ∷ []) left))

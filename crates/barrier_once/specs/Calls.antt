@@ -1,5 +1,5 @@
 -- The events of a call, and a thread that holds the mutex of the bar.
-use Rattle.std.specs.Prelude.{◌≡◌, ◌⊎◌, ℕ, ◌+◌, ◌<◌, ◌≤◌, false, zero, suc, List, [], ◌∷◌, slice_set, Some, None}
+use Rattle.std.specs.Prelude.{◌≡◌, ◌⊎◌, ℕ, ◌+◌, ◌<◌, ◌≤◌, false, zero, suc, List, [], ◌∷◌, ◌++◌, slice_set, Some, None}
 use Rattle.larch_actions.specs.declared.event.Event.{Event}
 use Rattle.nub_rule.specs.Known.{Known, Shape, Holds}
 use Rattle.nub_rule.specs.Plays.{acquire_event, release_event, enqueue_event, event, broadcast_action}
@@ -10,6 +10,7 @@ use Rattle.barrier_once.specs.declared.cell.RoundAt.{RoundAt}
 use Rattle.barrier_once.specs.declared.share.RoundShare.{RoundShare}
 use Rattle.barrier_once.specs.declared.share.RoundWorld.{RoundWorld}
 use Rattle.barrier_once.specs.Rounds.{KnowsBar, MayArrive, arrived_share, passed_share}
+use Rattle.barrier_once.specs.Walks.{RoundStint, Walks}
 
 abbrev pub RoundThread : Type 0
 RoundThread = Known Cell RoundShare RoundWorld
@@ -33,13 +34,23 @@ waits t m c (suc k) = enqueue_event false t m c ∷ resume_event t m c ∷ waits
 abbrev pub IsStay : ℕ → ℕ → ℕ → List Event → Type 0
 IsStay t m c es = (es ≡ event t (broadcast_action c []) ∷ []) ⊎ ((k : ℕ) × (es ≡ waits t m c (suc k)))
 
--- the thread t acquired m, stayed at the bar, and released m
-abbrev pub Arrived : ℕ → ℕ → ℕ → RoundThread → RoundThread → Type 0
-Arrived t m c a b = (es : List Event) × IsStay t m c es × Adds (acquire_event t m ∷ es) (release_event t m) a b
+-- the stints ss were entered, those of these events at the bar m
+abbrev pub EntersAll : ℕ → ℕ → ℕ → List Event → RoundThread → RoundThread → Type 0
+EntersAll m came left es a b = (ss : List RoundStint) × (b.stints ≡ a.stints ++ ss) × Walks m came left es ss
+
+-- the thread t with the share s acquired m, stayed at the bar, and released m; these are its stints
+abbrev pub Arrived : ℕ → ℕ → ℕ → RoundShare → RoundThread → RoundThread → Type 0
+Arrived t m c s a b =
+    (es : List Event) × IsStay t m c es × Adds (acquire_event t m ∷ es) (release_event t m) a b
+    × EntersAll m s.arrivals s.left (acquire_event t m ∷ (es ++ release_event t m ∷ [])) a b
 
 -- the thread t acquired m and released it
 abbrev pub Visited : ℕ → ℕ → RoundThread → RoundThread → Type 0
 Visited t m a b = Adds (acquire_event t m ∷ []) (release_event t m) a b
+
+-- the thread t entered one stint with m, in which it got x and left y, and its share was s and is r
+abbrev pub Enters : ℕ → ℕ → Cell → Cell → RoundShare → RoundShare → RoundThread → RoundThread → Type 0
+Enters t m x y s r a b = b.stints ≡ a.stints ++ record { thread = t; mutex = m; got = x; left = y; before = s; after = r } ∷ []
 
 -- the thread holds the bar x, at which it may arrive
 pub record IsAtBar (p : Shape RoundWorld) (at : RoundAt) (x : Cell) (s : RoundShare) (b : RoundThread) : Type 0 where
@@ -56,6 +67,7 @@ pub record HasLeft (p : Shape RoundWorld) (at : RoundAt) (s : RoundShare) (a b :
   pub rest : AtRest p b
   pub same : IsSame a b
   pub ran : (es : List Event) × IsStay a.number at.bar.0 at.cond.0 es × Adds es (release_event a.number at.bar.0) a b
+      × EntersAll at.bar.0 (s.arrivals + 1) s.left (es ++ release_event a.number at.bar.0 ∷ []) a b
   pub held : b.held ≡ slice_set a.held at.bar.0 None
   pub share : b.share ≡ Some (passed_share s)
 
@@ -64,6 +76,7 @@ pub record IsWaiting (p : Shape RoundWorld) (at : RoundAt) (s : RoundShare) (k :
   pub rest : AtRest p b
   pub same : IsSame a b
   pub events : Added (waits a.number at.bar.0 at.cond.0 (suc k)) a b
+  pub stints : EntersAll at.bar.0 (s.arrivals + 1) s.left (waits a.number at.bar.0 at.cond.0 (suc k)) a b
   pub held : b.held ≡ slice_set a.held at.bar.0 (Some x)
   pub holds : Holds b at.bar.0 x
   pub share : b.share ≡ Some (arrived_share s)

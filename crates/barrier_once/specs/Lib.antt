@@ -1,4 +1,5 @@
 pub mod Calls
+pub mod Walks
 pub mod Cells
 pub mod RoundLaws
 pub mod Rounds

@@ -3,10 +3,12 @@ ghost use Rattle.std.specs.Prelude.{◌≡◌, ◌+◌, ◌*◌, ◌<◌, ◌≤
 ghost use mathlib.Core.Option.{some};
 ghost use lib.ListN.{get_elem?};
 ghost use Rattle.nub.specs.Rest.{AtRest, IsSame};
-ghost use Rattle.barrier_once.specs.Calls.{Arrived, HasAgreed, HasLeft, IsAtBar, IsFitting, IsPlaced, Visited};
-ghost use Rattle.barrier_once.specs.Cells.{arrived_of};
+ghost use Rattle.barrier_once.specs.Calls.{Arrived, Enters, HasAgreed, HasLeft, IsAtBar, IsFitting, IsPlaced, Visited};
+ghost use Rattle.barrier_once.specs.Cells.{arrived_of, once_of, sum_of};
+ghost use Rattle.barrier_once.specs.declared.cell.Cell.{Cell};
+ghost use Rattle.barrier_once.specs.declared.cell.Cell.TheVariants.{Once, Sum};
 ghost use Rattle.barrier_once.specs.declared.share.RoundShare.{RoundShare};
-ghost use Rattle.barrier_once.specs.Rounds.{MayAdd, MayArrive, added_share, passed_share, triangle};
+ghost use Rattle.barrier_once.specs.Rounds.{MayAdd, MayArrive, added_share, agreed_share, passed_share, triangle};
 
 use crate::cell::{Cell, RoundAt};
 use crate::round_uses::{AddsOwn, Agrees, Arrives, Leaves, Passes, RoundUses};
@@ -39,7 +41,7 @@ pub fn arrive<R: Wait>(
     requires share { (s : RoundShare) × (me.old.share ≡ Some s) × MayArrive me.old.number s }
     ensures rest { AtRest p.now me.new }
     ensures same { IsSame me.old me.new }
-    ensures ran { Arrived me.old.number at.now.bar.0 at.now.cond.0 me.old me.new }
+    ensures ran { (s : RoundShare) → me.old.share ≡ Some s → Arrived me.old.number at.now.bar.0 at.now.cond.0 s me.old me.new }
     ensures held { me.new.held ≡ me.old.held }
     ensures answer { (s : RoundShare) → me.old.share ≡ Some s → result ≡ s.arrivals }
     ensures share { (s : RoundShare) → me.old.share ≡ Some s → me.new.share ≡ Some (passed_share s) }
@@ -138,6 +140,8 @@ pub fn add_own<R: Wait>(rt: &R, p: &Package<RoundUses>, me: &mut Thread<RoundUse
     ensures ran { Visited me.old.number at.now.sum.0 me.old me.new }
     ensures held { me.new.held ≡ me.old.held }
     ensures share { (s : RoundShare) → me.old.share ≡ Some s → me.new.share ≡ Some (added_share me.old.number s) }
+    ensures stint { (s : RoundShare) → me.old.share ≡ Some s → (x : Cell) × Enters me.old.number at.now.sum.0 x
+        (Sum (sum_of x + (me.old.number + 1))) s (added_share me.old.number s) me.old me.new }
 {
     let sum = acquire(rt, p, me, at.sum).sum();
     let own = u64::from(me.number()) + 1;
@@ -169,6 +173,7 @@ pub fn total<R: Wait>(
     ensures ran { Visited me.old.number at.now.sum.0 me.old me.new }
     ensures held { me.new.held ≡ me.old.held }
     ensures share { me.new.share ≡ me.old.share }
+    ensures stint { (s : RoundShare) → me.old.share ≡ Some s → (x : Cell) × Enters me.old.number at.now.sum.0 x x s s me.old me.new }
     ensures answer { (s : RoundShare) (j : ℕ) → me.old.share ≡ Some s → s.arrivals ≡ 2 * j + 1
         → result ≡ (j + 1) * triangle p.now.world.parties }
 {
@@ -217,6 +222,8 @@ pub fn agree<F: FnOnce() -> u64 + Drop, R: Wait>(
     ensures held { me.new.held ≡ me.old.held }
     ensures share { (s : RoundShare) → me.old.share ≡ Some s
         → (r : RoundShare) × (me.new.share ≡ Some r) × HasAgreed (F.post f) result s r }
+    ensures stint { (s : RoundShare) → me.old.share ≡ Some s → (x : Cell) × (once_of x ≡ None → F.post f result)
+        × Enters me.old.number at.now.once.0 x (Once (Some result)) s (agreed_share x (Once (Some result)) s) me.old me.new }
     ensures fits { (s : RoundShare) → me.old.share ≡ Some s → IsFitting p.now.world s result }
 {
     let cell = acquire(rt, p, me, at.once);

@@ -4,7 +4,7 @@ use Rattle.barrier_once.specs.Cells.{once_of}
 use Rattle.barrier_once.specs.declared.share.RoundShare.{RoundShare}
 use Rattle.barrier_once.specs.Calls.{HasAgreed}
 use Rattle.barrier_once.specs.Rounds.{Allowed, agreed_share, offered_after}
-use Rattle.barrier_once.proofs.Visits.{held_back, of_own}
+use Rattle.barrier_once.proofs.Visits.{entered_own, held_back, of_own}
 use Rattle.barrier_once.proofs.calls.agree.Goals as goal
 
 -- what was found or made is within the bounds, and goes where nothing else is
@@ -69,3 +69,14 @@ returns-clause-fits g c = λ s mine.
       again = λ v e. some v (knows.same v e);
       within = (chosen (once_of x) value w.most _ none some c.requires.within knows.within).1;
     }
+
+pub returns-clause-stint : goal.returns-clause-stint
+returns-clause-stint g c = λ s mine.
+    let got = c.acquire-cell.ensures in
+    let x = c.acquire-cell.result in
+    let y = Once (Some c.found_or-value.result) in
+    let one = c.release.ensures.stint c.args.p.now.world s x (got.same.world ∙ c.requires.world) (got.share ∙ mine) got.holds in (
+      x,
+      λ e. c.found_or-value.ensures.none (c.once.ensures ∙ e),
+      entered_own c.args.at.now.once.0 x y y s (λ t. agreed_share x y s) c.args.me.now c.acquire-cell.new.me c.release.new.me got.same got.stints refl one,
+    )

@@ -5,7 +5,8 @@ use Rattle.nub.proofs.Users.{same_on}
 use Rattle.barrier_once.specs.Cells.{round_of}
 use Rattle.barrier_once.specs.Calls.{HasLeft, waits}
 use Rattle.barrier_once.specs.Rounds.{Allowed, arrived_share}
-use Rattle.barrier_once.proofs.Visits.{at_round, gave_after, of_own, waited, waited_on}
+use Rattle.barrier_once.proofs.Visits.{at_round, entered_first, entered_last, entered_more, gave_after, of_own, waited, waited_on}
+use Rattle.barrier_once.proofs.Walks.{waits_acquire, waits_release}
 use Rattle.barrier_once.proofs.calls.await_round.Goals as goal
 
 pub loop-init : goal.loop-init
@@ -14,6 +15,8 @@ loop-init g c =
     let b = c.requires.bar.1 in
     let w = c.args.p.now.world in
     let was = c.wait-seen.ensures in
+    let m = c.args.at.now.bar.0 in
+    let one = was.stint w s c.args.bar b.world b.share b.holds in
     let share = was.share w s c.args.bar b.world b.share b.holds in (
       s,
       zero,
@@ -22,6 +25,7 @@ loop-init g c =
         rest = was.rest;
         same = was.same;
         events = waited c.args.at.now.bar.0 c.args.at.now.cond.0 c.args.me.now c.wait-seen.new.me was.event;
+        stints = entered_first m c.args.at.now.cond.0 (s.arrivals + 1) s.left c.args.me.now c.wait-seen.new.me _ one refl (omega arith);
         held = was.held;
         holds = was.holds;
         share = share;
@@ -61,10 +65,14 @@ returns-then-round g c = λ s b.
     let x = c.loop.seen in
     let gave = c.release.ensures in
     let own : inv.0 ≡ s = same_Some inv.0 s (sym inv.2.share ∙ b.share) in
+    let es = waits a.number m o (suc inv.1) in
+    let came = inv.0.arrivals + 1 in
+    let one = gave.stint w (arrived_share inv.0) x (inn.same.world ∙ inv.2.world) inn.share inn.holds in
+    let entered = entered_last m came inv.0.left es a c.loop.me e _ (waits_acquire a.number m o (suc inv.1)) (waits_release a.number m o (suc inv.1)) inn.stints one refl (omega arith) refl in
     subst (λ u. HasLeft c.args.p.now c.args.at.now u a e) own record {
       rest = gave.rest;
       same = same_on a c.loop.me e inn.same gave.same;
-      ran = (waits a.number m o (suc inv.1), inr (inv.1, refl), gave_after m o (suc inv.1) a c.loop.me e inn.same inn.events gave.event);
+      ran = (es, inr (inv.1, refl), gave_after m o (suc inv.1) a c.loop.me e inn.same inn.events gave.event, entered);
       held = gave.held ∙ (ap (λ h. slice_set h m None) inn.held ∙ set-set a.held m (Some x) None);
       share = gave.share w (arrived_share inv.0) x (inn.same.world ∙ inv.2.world) inn.share inn.holds;
     }
@@ -88,6 +96,7 @@ loop-preserved g c =
     let y = c.wait-seen-in-loop.result in
     let again = c.wait-seen-in-loop.ensures in
     let world = inn.same.world ∙ b.world in
+    let one = again.stint w (arrived_share s) c.loop.seen world inn.share inn.holds in
     let share = again.share w (arrived_share s) c.loop.seen world inn.share inn.holds in (
       s,
       suc inv.1,
@@ -96,6 +105,7 @@ loop-preserved g c =
         rest = again.rest;
         same = same_on a c.loop.me e inn.same again.same;
         events = waited_on m c.args.at.now.cond.0 (suc inv.1) a c.loop.me e inn.same inn.events again.event;
+        stints = entered_more m c.args.at.now.cond.0 (suc inv.1) (s.arrivals + 1) s.left a c.loop.me e _ inn.stints one refl (omega arith);
         held = again.held ∙ (ap (λ h. slice_set h m (Some y)) inn.held ∙ set-set a.held m (Some c.loop.seen) (Some y));
         holds = again.holds;
         share = share;
