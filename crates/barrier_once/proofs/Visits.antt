@@ -100,9 +100,7 @@ arrived_at p at s a b e same took none left =
       ran.0,
       subst (λ n. IsStay n m at.cond.0 ran.0) same.number ran.1,
       came_back m ran.0 a b e same took ran.2,
-      ss,
-      ran.3.1 ∙ ap (λ l. l ++ ss) none,
-      walks_acquire t m s.arrivals s.left (ran.0 ++ release_event t m ∷ []) ss own,
+      (ss, ran.3.1 ∙ ap (λ l. l ++ ss) none, walks_acquire t m s.arrivals s.left (ran.0 ++ release_event t m ∷ []) ss own),
     )
 
 -- the bar was given back in one stint more

@@ -9,7 +9,7 @@ use Rattle.barrier_once.specs.Calls.{waits}
 use Rattle.barrier_once.specs.Walks.{EndsStints, RoundStint, Walks, acquires, how_many, releases}
 
 pub how_many_append : (f : Action → Bool) (es fs : List Event) → how_many f (es ++ fs) ≡ how_many f es + how_many f fs
-how_many_append f [] fs = refl
+how_many_append f [] fs = omega arith
 how_many_append f (e ∷ es) fs = let h = how_many_append f es fs in omega arith
 
 zero_more : (n : ℕ) → n + 0 ≡ n
@@ -66,16 +66,16 @@ unreleased a b e = cc
 pub walks_wait : (t m c came left : ℕ) (s : RoundStint) → s.mutex ≡ m → s.after.arrivals ≤ came → Walks m came left (enqueue_event false t m c ∷ resume_event t m c ∷ []) (s ∷ [])
 walks_wait t m c came left s mutex few =
     let own : EndsStints m (eqb m m) false came left (s ∷ []) = subst (λ (b : Bool). EndsStints m b false came left (s ∷ [])) (sym (eq-eqb m m refl)) (s, refl, mutex, few, unreleased s.after.left (left + 1)) in
-    (s ∷ [], [], refl, own, [], [], refl, refl, refl)
+    (s ∷ [], [], refl, own, ([], [], refl, refl, refl))
 
 -- waits acquire and release nothing
 pub waits_acquire : (t m c k : ℕ) → how_many (acquires m) (waits t m c k) ≡ 0
 waits_acquire t m c zero = refl
-waits_acquire t m c (suc k) = waits_acquire t m c k
+waits_acquire t m c (suc k) = let none = waits_acquire t m c k in omega arith
 
 pub waits_release : (t m c k : ℕ) → how_many (releases m) (waits t m c k) ≡ 0
 waits_release t m c zero = refl
-waits_release t m c (suc k) = waits_release t m c k
+waits_release t m c (suc k) = let none = waits_release t m c k in omega arith
 
 -- after some events that acquire and release nothing
 pub walks_after : (m came left : ℕ) (es fs : List Event) (ss rs : List RoundStint) → how_many (acquires m) es ≡ 0 → how_many (releases m) es ≡ 0 → Walks m came left es ss → Walks m came left fs rs → Walks m came left (es ++ fs) (ss ++ rs)
