@@ -9,11 +9,15 @@ use Rattle.nub.proofs.Users.{idle_again, idle_first}
 use Rattle.barrier_once.specs.declared.cell.RoundAt.{RoundAt}
 use Rattle.barrier_once.specs.declared.share.RoundShare.{RoundShare}
 use Rattle.barrier_once.specs.declared.share.RoundWorld.{RoundWorld}
-use Rattle.barrier_once.specs.Calls.{Arrived, IsPlaced, RoundThread, Visited}
-use Rattle.barrier_once.specs.Rounds.{MayAdd, MayArrive, added_share, fresh_share, passed_share}
+use Rattle.barrier_once.specs.declared.cell.Cell.{Cell}
+use Rattle.barrier_once.specs.Calls.{Arrived, Enters, IsPlaced, RoundThread, Visited}
+use Rattle.barrier_once.specs.declared.cell.Cell.TheVariants.{Once}
+use Rattle.barrier_once.specs.Cells.{once_of}
+use Rattle.barrier_once.specs.Rounds.{MayAdd, MayArrive, added_share, agreed_share as once_share, fresh_share, passed_share}
 use Rattle.barrier_once.specs.RoundLaws.{one_more}
-use Rattle.command_rounds.specs.Playing.{IsBetween, IsHalfway, IsPlaying, IsTable, round_at}
+use Rattle.command_rounds.specs.Playing.{HasWalked, IsBetween, IsHalfway, IsPlaying, IsTable, round_at}
 use Rattle.command_rounds.specs.RoundEvents.{asked, AreEventsOf, IsArrivalOf, IsRoundOf, visit}
+use Rattle.command_rounds.proofs.Walked.{not_walked, walked_arrival, walked_once, walked_sum}
 
 pub placed : (p : Shape RoundWorld) (at : RoundAt) → IsTable p → at ≡ round_at → IsPlaced p at
 placed p at table is =
@@ -33,31 +37,28 @@ placed p at table is =
     }
 
 pub first_between : (p : Shape RoundWorld) (t : ℕ) (me : RoundThread) → IsFirst p (λ w n. fresh_share) t me → IsBetween p t fresh_share [] me
-first_between p t me first = record { idle = idle_first p (λ w n. fresh_share) t me first; mine = first.mine }
+first_between p t me first = record {
+  idle = idle_first p (λ w n. fresh_share) t me first;
+  mine = first.mine;
+  walked = subst (HasWalked t fresh_share []) (sym first.stints) (not_walked t);
+}
 
 -- after a call that took the mutex m and gave it back
 pub visited : (p : Shape RoundWorld) (t m : ℕ) (s r : RoundShare) (es : List Event) (a e : RoundThread) → IsBetween p t s es a → AtRest p e → IsSame a e → Visited a.number m a e → e.held ≡ a.held → e.share ≡ Some r
-    → IsBetween p t r (es ++ visit t m) e
-visited p t m s r es a e b rest same ran held share =
+    → HasWalked t r (es ++ visit t m) e.stints → IsBetween p t r (es ++ visit t m) e
+visited p t m s r es a e b rest same ran held share walked =
     let own = subst (λ n. Visited n m a e) b.idle.number ran in
     record {
       idle = idle_again p t s r a e b.idle rest same held share;
       mine = own.mine ∙ (ap (λ l. (l ++ acquire_event t m ∷ []) ++ release_event t m ∷ []) b.mine ∙ append_assoc es (acquire_event t m ∷ []) (release_event t m ∷ []));
+      walked = walked;
     }
 
--- after an arrival
-pub arrived : (p : Shape RoundWorld) (t : ℕ) (s r : RoundShare) (es : List Event) (a e : RoundThread) → IsBetween p t s es a → AtRest p e → IsSame a e → Arrived a.number 0 0 a e → e.held ≡ a.held → e.share ≡ Some r
-    → (arrival : List Event) × IsArrivalOf t arrival × IsBetween p t r (es ++ arrival) e
-arrived p t s r es a e b rest same ran held share =
-    let own = subst (λ n. Arrived n 0 0 a e) b.idle.number ran in
-    let stay = acquire_event t 0 ∷ own.0 in (
-      stay ++ release_event t 0 ∷ [],
-      (own.0, own.1, refl),
-      record {
-        idle = idle_again p t s r a e b.idle rest same held share;
-        mine = own.2.mine ∙ (ap (λ l. (l ++ stay) ++ release_event t 0 ∷ []) b.mine ∙ append_assoc es stay (release_event t 0 ∷ []));
-      },
-    )
+-- after a visit to the sum
+pub visited_sum : (p : Shape RoundWorld) (t : ℕ) (s r : RoundShare) (x y : Cell) (es : List Event) (a e : RoundThread) → IsBetween p t s es a → AtRest p e → IsSame a e → Visited a.number 1 a e → e.held ≡ a.held → e.share ≡ Some r
+    → Enters a.number 1 x y s r a e → r.arrivals ≡ s.arrivals → r.left ≡ s.left → r.agreed ≡ s.agreed → IsBetween p t r (es ++ visit t 1) e
+visited_sum p t s r x y es a e b rest same ran held share one arrivals left agreed =
+    visited p t 1 s r es a e b rest same ran held share (subst (HasWalked t r (es ++ visit t 1)) (sym one) (walked_sum t s r _ es a.stints refl arrivals arrivals left agreed b.walked))
 
 nothing : (t : ℕ) → 0 ≡ 0 * (t + 1)
 nothing t = omega arith
@@ -69,6 +70,34 @@ agreed_share X v s (inl is) = (ap (λ (u : RoundShare). u.arrivals) is, ap (λ (
 agreed_share X v s (inr h) =
     let is = h.2 in
     (ap (λ (u : RoundShare). u.arrivals) is, ap (λ (u : RoundShare). u.left) is, ap (λ (u : RoundShare). u.added) is, ap (λ (u : RoundShare). u.agreed) is)
+
+-- after the first call, which agreed on v
+pub visited_once : (p : Shape RoundWorld) (t v : ℕ) (X : Type 0) (r : RoundShare) (x : Cell) (a e : RoundThread) → IsFirst p (λ w n. fresh_share) t a → AtRest p e → IsSame a e → Visited a.number 2 a e → e.held ≡ a.held → e.share ≡ Some r
+    → (r ≡ record fresh_share { agreed = Some v }) ⊎ ((fresh_share.offered ≡ None) × X × (r ≡ record fresh_share { agreed = Some v; offered = Some v }))
+    → Enters a.number 2 x (Once (Some v)) fresh_share (once_share x (Once (Some v)) fresh_share) a e → (once_of x ≡ None → v ≡ t + 1) → IsBetween p t r ([] ++ visit t 2) e
+visited_once p t v X r x a e first rest same ran held share has one offers =
+    let is = agreed_share X v r has in
+    let walked = walked_once t v r _ refl refl refl refl offers is.0 is.1 is.3 in
+    visited p t 2 fresh_share r [] a e (first_between p t a first) rest same ran held share (subst (HasWalked t r ([] ++ visit t 2)) (sym (one ∙ ap (λ l. l ++ _ ∷ []) first.stints)) walked)
+
+-- after an arrival
+pub arrived : (p : Shape RoundWorld) (t : ℕ) (s : RoundShare) (es : List Event) (a e : RoundThread) → IsBetween p t s es a → AtRest p e → IsSame a e → Arrived a.number 0 0 s a e → e.held ≡ a.held → e.share ≡ Some (passed_share s)
+    → (arrival : List Event) × IsArrivalOf t arrival × IsBetween p t (passed_share s) (es ++ arrival) e
+arrived p t s es a e b rest same ran held share =
+    let own = subst (λ n. Arrived n 0 0 s a e) b.idle.number ran in
+    let stay = acquire_event t 0 ∷ own.0 in
+    let arrival = stay ++ release_event t 0 ∷ [] in
+    let entered = own.3 in
+    let is : IsArrivalOf t arrival = (own.0, own.1, refl) in
+    let walked = walked_arrival t s es arrival a.stints entered.0 is entered.2 b.walked in (
+      arrival,
+      is,
+      record {
+        walked = subst (HasWalked t (passed_share s) (es ++ arrival)) (sym entered.1) walked;
+        idle = idle_again p t s (passed_share s) a e b.idle rest same held share;
+        mine = own.2.mine ∙ (ap (λ l. (l ++ stay) ++ release_event t 0 ∷ []) b.mine ∙ append_assoc es stay (release_event t 0 ∷ []));
+      },
+    )
 
 -- a thread that has agreed plays its first round next
 pub agreed : (p : Shape RoundWorld) (t v : ℕ) (X : Type 0) (s : RoundShare) (me : RoundThread) → (s ≡ record fresh_share { agreed = Some v }) ⊎ ((fresh_share.offered ≡ None) × X × (s ≡ record fresh_share { agreed = Some v; offered = Some v }))

@@ -1,16 +1,20 @@
 -- A thread that plays its rounds.
-use Rattle.std.specs.Prelude.{◌≡◌, ℕ, ◌+◌, ◌*◌, ◌<◌, ◌≤◌, List, [], ◌∷◌, ◌++◌, length, vec_capacity, IfSome, Option as Opt, Some, None}
+use Rattle.std.specs.Prelude.{◌≡◌, ℕ, ◌+◌, ◌*◌, ◌<◌, ◌≤◌, false, eqb, List, [], ◌∷◌, ◌++◌, length, vec_capacity, IfSome, Option as Opt, Some, None}
+use Rattle.std.specs.List.{AllByRecursion}
 use Rattle.std.proofs.Common.{Vec, Global}
 use Rattle.larch_actions.specs.declared.event.Event.{Event}
 use Rattle.larch_actions.specs.Layout.{layout_of}
 use Rattle.nub_rule.specs.Items.{Each}
 use Rattle.nub_rule.specs.Known.{Shape}
+use Rattle.nub_rule.specs.Stints.{stints_at}
 use Rattle.nub.specs.Idle.{IsIdle}
 use Rattle.barrier_once.specs.declared.cell.RoundAt.{RoundAt}
 use Rattle.barrier_once.specs.declared.share.RoundShare.{RoundShare}
 use Rattle.barrier_once.specs.declared.share.RoundWorld.{RoundWorld}
 use Rattle.barrier_once.specs.Calls.{RoundThread}
-use Rattle.barrier_once.specs.Rounds.{triangle}
+use Rattle.barrier_once.specs.Cells.{once_of}
+use Rattle.barrier_once.specs.Rounds.{fresh_share, triangle}
+use Rattle.barrier_once.specs.Walks.{RoundStint, Walks, acquires, how_many, releases}
 use Rattle.command_rounds.specs.RoundEvents.{AreEventsOf, IsArrivalOf, visit}
 
 -- the bar with its condition, the sum and the once cell
@@ -24,10 +28,33 @@ pub record IsTable (p : Shape RoundWorld) : Type 0 where
   pub at : p.world.at ≡ round_at
   pub few : p.world.parties ≤ 64
 
+-- a stint with another mutex than the bar leaves the arrivals as they were
+abbrev pub KeepsArrivals : RoundStint → Type 0
+KeepsArrivals s = eqb s.mutex 0 ≡ false → s.after.arrivals ≡ s.before.arrivals
+
+-- the thread t began with the once cell, and agreed on v: on its number and 1, if the cell was empty
+pub record HasBegun (t v : ℕ) (ss : List RoundStint) : Type 0 where
+  pub first : RoundStint
+  pub others : List RoundStint
+  pub are : ss ≡ first ∷ others
+  pub mutex : first.mutex ≡ 2
+  pub before : first.before ≡ fresh_share
+  pub agreed : first.after.agreed ≡ Some v
+  pub offers : once_of first.got ≡ None → v ≡ t + 1
+
+-- the thread t with this share has made these events and stints
+pub record HasWalked (t : ℕ) (s : RoundShare) (es : List Event) (ss : List RoundStint) : Type 0 where
+  pub walks : Walks 0 0 0 es (stints_at 0 ss)
+  pub arrivals : s.arrivals ≡ how_many (acquires 0) es
+  pub left : s.left ≡ how_many (releases 0) es
+  pub kept : AllByRecursion KeepsArrivals ss
+  pub begun : (v : ℕ) → s.agreed ≡ Some v → HasBegun t v ss
+
 -- the thread t is between two calls with this share, and these are its own events
 pub record IsBetween (p : Shape RoundWorld) (t : ℕ) (s : RoundShare) (es : List Event) (me : RoundThread) : Type 0 where
   pub idle : IsIdle p t s me
   pub mine : me.mine ≡ es
+  pub walked : HasWalked t s es me.stints
 
 -- the thread t has agreed and played n rounds
 pub record IsPlaying (p : Shape RoundWorld) (t n : ℕ) (me : RoundThread) : Type 0 where

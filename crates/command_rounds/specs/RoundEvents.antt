@@ -1,9 +1,12 @@
 -- The events of a thread in its rounds: the bar is the mutex 0 with the condition 0, the sum the
 -- mutex 1, and the once cell the mutex 2.
-use Rattle.std.specs.Prelude.{◌≡◌, ℕ, zero, suc, cond, eqb, List, [], ◌∷◌, ◌++◌}
+use Rattle.std.specs.Prelude.{◌≡◌, ℕ, zero, suc, ◌+◌, ◌<◌, ◌≤◌, cond, eqb, List, [], ◌∷◌, ◌++◌}
+use Rattle.larch_actions.specs.Actions.{by_thread}
 use Rattle.larch_actions.specs.declared.event.Event.{Event}
 use Rattle.nub_rule.specs.Plays.{acquire_event, release_event}
+use Rattle.nub_rule.specs.Stints.{takers}
 use Rattle.barrier_once.specs.Calls.{IsStay}
+use Rattle.barrier_once.specs.Walks.{acquires, how_many, releases}
 
 -- the thread t acquires the mutex m and releases it
 abbrev pub visit : ℕ → ℕ → List Event
@@ -31,3 +34,13 @@ AreRoundsOf t (suc n) es = (before : List Event) × (last : List Event) × AreRo
 -- all events of the thread t: it agrees, and plays `rounds` rounds
 abbrev pub AreEventsOf : ℕ → ℕ → List Event → Type 0
 AreEventsOf t rounds es = (rest : List Event) × AreRoundsOf t rounds rest × (es ≡ visit t 2 ++ rest)
+
+-- no thread leaves the bar before all have come as often: before each Release of the bar that is its
+-- thread's k-th, each thread has acquired the bar at least k times
+abbrev pub AllHaveCome : ℕ → List Event → Type 0
+AllHaveCome threads h = (a b : List Event) (t u : ℕ) → h ≡ a ++ release_event t 0 ∷ b → u < threads
+    → how_many (releases 0) (by_thread t a) + 1 ≤ how_many (acquires 0) (by_thread u a)
+
+-- the value is the number and 1 of the thread that takes the once cell first
+abbrev pub IsOfFirst : ℕ → List Event → Type 0
+IsOfFirst value h = (t : ℕ) (others : List ℕ) → takers 2 h ≡ t ∷ others → value ≡ t + 1

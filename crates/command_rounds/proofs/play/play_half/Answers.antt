@@ -1,7 +1,9 @@
-use Rattle.std.proofs.Common.{◌++◌, subst}
-use Rattle.barrier_once.specs.Calls.{Arrived, Visited}
-use Rattle.barrier_once.specs.Rounds.{added_share, passed_share}
-use Rattle.command_rounds.proofs.Between.{arrived, halfway, visited}
+use Rattle.std.proofs.Common.{◌++◌, ◌+◌, refl, subst}
+use Rattle.barrier_once.specs.declared.cell.Cell.TheVariants.{Sum}
+use Rattle.barrier_once.specs.Cells.{sum_of}
+use Rattle.barrier_once.specs.Calls.{Arrived, Enters, Visited}
+use Rattle.barrier_once.specs.Rounds.{added_share}
+use Rattle.command_rounds.proofs.Between.{arrived, halfway, visited_sum}
 use Rattle.command_rounds.specs.RoundEvents.{visit}
 use Rattle.command_rounds.proofs.play.play_half.Goals as goal
 
@@ -17,5 +19,8 @@ returns g c = λ n h few.
     let came = c.arrive.ensures in
     let more = added_share t h.share in
     let share = added.share h.share h.between.idle.share in
-    let between = visited p t 1 h.share more h.events a b h.between added.rest added.same (subst (λ l. Visited t l.sum.0 a b) at added.ran) added.held share in
-    halfway p t n a e h few (arrived p t more (passed_share more) (h.events ++ visit t 1) b e between came.rest came.same (subst (λ l. Arrived b.number l.bar.0 l.cond.0 b e) at came.ran) came.held (came.share more share))
+    let stint = added.stint h.share h.between.idle.share in
+    let one = subst (λ l. Enters t l.sum.0 stint.0 (Sum (sum_of stint.0 + (t + 1))) h.share more a b) at stint.1 in
+    let between = visited_sum p t h.share more stint.0 _ h.events a b h.between added.rest added.same (subst (λ l. Visited t l.sum.0 a b) at added.ran) added.held share one refl refl refl in
+    let ran = subst (λ l. Arrived b.number l.bar.0 l.cond.0 more b e) at (came.ran more share) in
+    halfway p t n a e h few (arrived p t more (h.events ++ visit t 1) b e between came.rest came.same ran came.held (came.share more share))

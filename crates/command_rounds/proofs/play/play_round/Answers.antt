@@ -1,6 +1,6 @@
 use Rattle.std.proofs.Common.{arith, ap, sym, subst, ◌∙◌}
 use Rattle.barrier_once.specs.Calls.{Arrived}
-use Rattle.barrier_once.specs.Rounds.{MayArrive, passed_share}
+use Rattle.barrier_once.specs.Rounds.{MayArrive}
 use Rattle.command_rounds.proofs.Between.{arrived, half_at, half_own, may_arrive_again, played}
 use Rattle.command_rounds.specs.RoundEvents.{asked}
 use Rattle.command_rounds.proofs.play.play_round.Goals as goal
@@ -65,7 +65,8 @@ returns g c = λ n begun few.
     let e = c.arrive.new.me in
     let reported = c.ask-answer.ensures n (half_own p t n b half) in
     let h = half_at p t b.number n d half.between.idle.number reported.0 in
-    let came = c.arrive.ensures in (
-      played p t n d e h (arrived p t h.share (passed_share h.share) _ d e h.between came.rest came.same (subst (λ l. Arrived d.number l.bar.0 l.cond.0 d e) c.places-at.ensures came.ran) came.held (came.share h.share h.between.idle.share)),
+    let came = c.arrive.ensures in
+    let ran = subst (λ l. Arrived d.number l.bar.0 l.cond.0 h.share d e) c.places-at.ensures (came.ran h.share h.between.idle.share) in (
+      played p t n d e h (arrived p t h.share _ d e h.between came.rest came.same ran came.held (came.share h.share h.between.idle.share)),
       λ z. reported.1 (half.between.idle.number ∙ z),
     )
