@@ -3,7 +3,7 @@ use Rattle.std.proofs.Common.{Bool, true, false, cond, eqb, ◌≡◌, ℕ, ◌+
 use Rattle.larch_actions.specs.declared.event.Event.{Event}
 use Rattle.larch_actions.specs.declared.event.Action.{Action}
 use Rattle.nub_rule.specs.Plays.{acquire_event, release_event, enqueue_event, event, broadcast_action}
-use Rattle.nub_rule.specs.Stints.{gives}
+use Rattle.larch_actions.specs.Takers.{gives}
 use Rattle.condition.specs.Waits.{resume_event}
 use Rattle.barrier_once.specs.Calls.{waits}
 use Rattle.barrier_once.specs.Walks.{EndsStints, RoundStint, Walks, acquires, how_many, releases}

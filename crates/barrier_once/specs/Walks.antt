@@ -3,7 +3,7 @@ use Rattle.std.specs.Prelude.{Bool, true, false, ◌≡◌, ℕ, ◌+◌, ◌≤
 use Rattle.larch_actions.specs.declared.event.Event.{Event}
 use Rattle.larch_actions.specs.declared.event.Action.{Action}
 use Rattle.larch_actions.specs.declared.event.Action.TheVariants.{Acquire, Release}
-use Rattle.nub_rule.specs.Stints.{gives}
+use Rattle.larch_actions.specs.Takers.{gives}
 use Rattle.nub_rule.specs.declared.view.Stint.{Stint}
 use Rattle.barrier_once.specs.declared.cell.Cell.{Cell}
 use Rattle.barrier_once.specs.declared.share.RoundShare.{RoundShare}

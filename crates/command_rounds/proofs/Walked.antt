@@ -6,7 +6,8 @@ use Rattle.std.proofs.lemmas.List.Elements.{filter-append}
 use Rattle.std.proofs.lemmas.Option.{same_Some}
 use Rattle.larch_actions.specs.declared.event.Event.{Event}
 use Rattle.nub_rule.specs.Plays.{acquire_event, release_event, event, broadcast_action}
-use Rattle.nub_rule.specs.Stints.{gives, stints_at}
+use Rattle.larch_actions.specs.Takers.{gives}
+use Rattle.nub_rule.specs.Stints.{stints_at}
 use Rattle.barrier_once.specs.declared.share.RoundShare.{RoundShare}
 use Rattle.barrier_once.specs.Calls.{IsStay}
 use Rattle.barrier_once.specs.Cells.{once_of}

@@ -4,7 +4,7 @@ use Rattle.std.specs.Prelude.{◌≡◌, ℕ, zero, suc, ◌+◌, ◌<◌, ◌�
 use Rattle.larch_actions.specs.Actions.{by_thread}
 use Rattle.larch_actions.specs.declared.event.Event.{Event}
 use Rattle.nub_rule.specs.Plays.{acquire_event, release_event}
-use Rattle.nub_rule.specs.Stints.{takers}
+use Rattle.larch_actions.specs.Takers.{takers}
 use Rattle.barrier_once.specs.Calls.{IsStay}
 use Rattle.barrier_once.specs.Walks.{acquires, how_many, releases}
 
