@@ -21,7 +21,8 @@ use Rattle.trace_check.specs.Verdicts.{IsPrefixText, Counts, refusal}
 use Rattle.trace_check.proofs.UnderWay.{IsUnderWay, few, starts_on, step_on, fails_on, ends_on, prefix_read}
 use Rattle.trace_board.proofs.Extended.{extended-push, length-extended}
 use Rattle.trace_shapes.specs.declared.view.DrawnRange.{DrawnRange}
-use Rattle.trace_board.specs.Tracked.{Tracked, nothing_tracked, tracked_after, tracked_since, extended}
+use Rattle.trace_board.specs.Tracked.{tracked_since, extended}
+use Rattle.trace_picture.specs.Shown.{Drawn, nothing_drawn, drawn_after, drawn_since}
 use Rattle.trace_picture.specs.Bands.{step_text}
 use Rattle.trace_picture.specs.Verdicts.{cut_words}
 use Rattle.trace_picture.specs.Picture.{head_text, steps_text, prefix_picture, ending, failed_ending, failed_picture, cut_picture}
@@ -48,10 +49,10 @@ unfolding prefix_picture steps_text
 prefix-none l v = append-nil (head_text l)
 
 -- so far these events were read and drawn
-pub record IsDrawing (budget : ℕ) (left₀ : Option (List ℕ)) (before : ℕ) (st : ReaderState) (now : ℕ) (m : Moment) (count : ℕ) (v : DrawnRange) (reported₀ reported : Option (List ℕ)) (kept : List ℕ) (k : Tracked) : Type 0 where
+pub record IsDrawing (budget : ℕ) (left₀ : Option (List ℕ)) (before : ℕ) (st : ReaderState) (now : ℕ) (m : Moment) (count : ℕ) (v : DrawnRange) (reported₀ reported : Option (List ℕ)) (kept : List ℕ) (k : Drawn) : Type 0 where
   pub under_way : IsUnderWay budget left₀ before st now m count
   pub flows : Pending reported₀ reported kept (prefix_picture st.layout v under_way.events) []
-  pub kept_is : k ≡ tracked_since (extended [] under_way.events)
+  pub kept_is : k ≡ drawn_since st.layout v (extended [] under_way.events)
 
 -- more was put after what is held back
 pub pending_text : (first now : Option (List ℕ)) (kept kept' all text : List ℕ) → Pending first now kept all [] → kept' ≡ kept ++ text → Pending first now kept' (all ++ text) []
@@ -66,8 +67,8 @@ pub nothing_sent : (h : Option (List ℕ)) → Appends h h []
 nothing_sent None = tt
 nothing_sent (Some xs) = sym (append-nil xs)
 
-unfoldable pub drawing_starts : (budget : ℕ) (left₀ : Option (List ℕ)) (before now : ℕ) (p p' : ReaderState) (l : Layout) (m : Moment) (v : DrawnRange) (reported : Option (List ℕ)) (kept : List ℕ) (k : Tracked)
-    → p.rest ≡ left₀ → p.room ≡ budget → p.lines ≡ 0 → TakesHead p p' l → before ≤ now → m.layout ≡ l → spec_of m ≡ at_first l.version → kept ≡ [] ++ head_text l → k ≡ nothing_tracked
+unfoldable pub drawing_starts : (budget : ℕ) (left₀ : Option (List ℕ)) (before now : ℕ) (p p' : ReaderState) (l : Layout) (m : Moment) (v : DrawnRange) (reported : Option (List ℕ)) (kept : List ℕ) (k : Drawn)
+    → p.rest ≡ left₀ → p.room ≡ budget → p.lines ≡ 0 → TakesHead p p' l → before ≤ now → m.layout ≡ l → spec_of m ≡ at_first l.version → kept ≡ [] ++ head_text l → k ≡ nothing_drawn
     → IsDrawing budget left₀ before p' now m 0 v reported reported kept k
 unfolding starts_on
 drawing_starts budget left₀ before now p p' l m v reported kept k rest room lines t le laid first text none =
@@ -78,7 +79,7 @@ drawing_starts budget left₀ before now p p' l m v reported kept k rest room li
       kept_is = none;
     }
 
-module _ (budget : ℕ) (left₀ : Option (List ℕ)) (before now : ℕ) (p : ReaderState) (m : Moment) (count : ℕ) (v : DrawnRange) (reported₀ reported : Option (List ℕ)) (kept : List ℕ) (k : Tracked)
+module _ (budget : ℕ) (left₀ : Option (List ℕ)) (before now : ℕ) (p : ReaderState) (m : Moment) (count : ℕ) (v : DrawnRange) (reported₀ reported : Option (List ℕ)) (kept : List ℕ) (k : Drawn)
     (d : IsDrawing budget left₀ before p now m count v reported₀ reported kept k) where
   pub drawing_few : count ≤ budget
   drawing_few = few budget left₀ before p now m count d.under_way
@@ -94,42 +95,44 @@ module _ (budget : ℕ) (left₀ : Option (List ℕ)) (before now : ℕ) (p : Re
   pub counted : length (extended [] d.under_way.events) ≡ count
   counted = omega (arith, length-extended [] d.under_way.events, d.under_way.counted)
 
-  unfoldable pub drawing_steps : (now' : ℕ) (p' : ReaderState) (m' : Moment) (e : Event) (kept' : List ℕ) (k' : Tracked) (l : Layout) → l ≡ p.layout → budget < 2 ^ 64 - 1 → TakesEvent p p' e → Acts (spec_of m) e (spec_of m') → m'.layout ≡ m.layout → now ≤ now'
-      → kept' ≡ kept ++ step_text l v k count e → k' ≡ tracked_after count e k
+  unfoldable pub drawing_steps : (now' : ℕ) (p' : ReaderState) (m' : Moment) (e : Event) (kept' : List ℕ) (k' : Drawn) (l : Layout) → l ≡ p.layout → budget < 2 ^ 64 - 1 → TakesEvent p p' e → Acts (spec_of m) e (spec_of m') → m'.layout ≡ m.layout → now ≤ now'
+      → kept' ≡ kept ++ step_text l v k.board count e → k' ≡ drawn_after l v count e k
       → IsDrawing budget left₀ before p' now' m' (count + 1) v reported₀ reported kept' k'
   unfolding step_on
   drawing_steps now' p' m' e kept' k' l same_l fits t a same le text turns =
       let es = d.under_way.events in
       let n = counted in
-      let step : step_text p.layout v k count e ≡ step_text p.layout v (tracked_since (extended [] es)) (length (extended [] es)) e = (λ i. step_text p.layout v (d.kept_is i) (sym n i) e) in
-      let all : prefix_picture p.layout v es ++ step_text p.layout v k count e ≡ prefix_picture p'.layout v (es ++ e ∷ []) =
+      let step : step_text p.layout v k.board count e ≡ step_text p.layout v (tracked_since (extended [] es)) (length (extended [] es)) e = (λ i. step_text p.layout v (d.kept_is i).board (sym n i) e) in
+      let all : prefix_picture p.layout v es ++ step_text p.layout v k.board count e ≡ prefix_picture p'.layout v (es ++ e ∷ []) =
       ap (λ s. prefix_picture p.layout v es ++ s) step ∙ sym (prefix-push p.layout v es e) ∙ ap (λ l. prefix_picture l v (es ++ e ∷ [])) (sym t.layout)
       in
-      let flows = pending_text reported₀ reported kept kept' (prefix_picture p.layout v es) (step_text p.layout v k count e) d.flows (text ∙ ap (λ x. kept ++ step_text x v k count e) same_l) in
+      let flows = pending_text reported₀ reported kept kept' (prefix_picture p.layout v es) (step_text p.layout v k.board count e) d.flows (text ∙ ap (λ x. kept ++ step_text x v k.board count e) same_l) in
       record {
         under_way = step_on budget left₀ before now now' p p' m m' count e fits d.under_way t a same le;
         flows = subst (λ x. Pending reported₀ reported kept' x []) all flows;
-        kept_is = turns ∙ (λ i. tracked_after (sym n i) e (d.kept_is i)) ∙ ap tracked_since (sym (extended-push [] es e));
+        kept_is =
+            turns ∙ ap (λ x. drawn_after x v count e k) same_l ∙ (λ i. drawn_after p.layout v (sym n i) e (d.kept_is i))
+            ∙ ap (drawn_since p.layout v) (sym (extended-push [] es e)) ∙ ap (λ x. drawn_since x v (extended [] (es ++ e ∷ []))) (sym t.layout);
       }
 
-  ends_same : ending p.layout v k count cut_words None ≡ ending p.layout v (tracked_since (extended [] d.under_way.events)) (length d.under_way.events) cut_words None
+  ends_same : ending p.layout v k count cut_words None ≡ ending p.layout v (drawn_since p.layout v (extended [] d.under_way.events)) (length d.under_way.events) cut_words None
   ends_same =
       let n = sym d.under_way.counted in
       λ i. ending p.layout v (d.kept_is i) (n i) cut_words None
 
   -- the end that the counts say is that of the events
   pub legal_end : (on : Bool) (l : Layout) (s : Summary) (end : List ℕ) → l ≡ p.layout → IsEnding on l v k count s d.under_way.events end
-      → IsEnding on p.layout v (tracked_since (extended [] d.under_way.events)) (length d.under_way.events) s d.under_way.events end
+      → IsEnding on p.layout v (drawn_since p.layout v (extended [] d.under_way.events)) (length d.under_way.events) s d.under_way.events end
   legal_end on l s end same_l h =
       let es = d.under_way.events in
       let laid = subst (λ x. IsEnding on x v k count s es end) same_l h in
       let held = subst (λ x. IsEnding on p.layout v x count s es end) d.kept_is laid in
-      subst (λ x. IsEnding on p.layout v (tracked_since (extended [] es)) x s es end) (sym d.under_way.counted) held
+      subst (λ x. IsEnding on p.layout v (drawn_since p.layout v (extended [] es)) x s es end) (sym d.under_way.counted) held
 
   pub legal_pending : (end : List ℕ) → Pending reported₀ reported (kept ++ end) (prefix_picture p.layout v d.under_way.events ++ end) []
   legal_pending end = pending_text reported₀ reported kept (kept ++ end) (prefix_picture p.layout v d.under_way.events) end d.flows refl
 
-  fails_same : (e : Event) (why : Broken) → failed_ending p.layout v k count e why ≡ failed_ending p.layout v (tracked_since (extended [] d.under_way.events)) (length d.under_way.events) e why
+  fails_same : (e : Event) (why : Broken) → failed_ending p.layout v k count e why ≡ failed_ending p.layout v (drawn_since p.layout v (extended [] d.under_way.events)) (length d.under_way.events) e why
   fails_same e why =
       let n = sym d.under_way.counted in
       λ i. failed_ending p.layout v (d.kept_is i) (n i) e why
@@ -139,13 +142,13 @@ module _ (budget : ℕ) (left₀ : Option (List ℕ)) (before now : ℕ) (p : Re
     unfolding cut_picture
     cut_pending text =
         let es = d.under_way.events in
-        pending_text reported₀ reported kept end (prefix_picture p.layout v es) (ending p.layout v (tracked_since (extended [] es)) (length es) cut_words None) d.flows (text ∙ ap (λ x. kept ++ x) ends_same)
+        pending_text reported₀ reported kept end (prefix_picture p.layout v es) (ending p.layout v (drawn_since p.layout v (extended [] es)) (length es) cut_words None) d.flows (text ∙ ap (λ x. kept ++ x) ends_same)
 
     pub failed_pending : (e : Event) (why : Broken) → end ≡ kept ++ failed_ending p.layout v k count e why → Pending reported₀ reported end (failed_picture p.layout v d.under_way.events e why) []
     unfolding failed_picture
     failed_pending e why text =
         let es = d.under_way.events in
-        pending_text reported₀ reported kept end (prefix_picture p.layout v es) (failed_ending p.layout v (tracked_since (extended [] es)) (length es) e why) d.flows (text ∙ ap (λ x. kept ++ x) (fails_same e why))
+        pending_text reported₀ reported kept end (prefix_picture p.layout v es) (failed_ending p.layout v (drawn_since p.layout v (extended [] es)) (length es) e why) d.flows (text ∙ ap (λ x. kept ++ x) (fails_same e why))
 
     -- a sink that failed
     pub cut_by : (text : List ℕ) → IsAPicture p.layout v d.under_way.events (spec_of m) text → AppendsPrefix reported₀ reported' text → (bytes : List ℕ) → left₀ ≡ Some bytes → (w : IsPrefixText budget bytes) × (text : List ℕ) × IsAPicture w.layout v w.events w.last text × AppendsPrefix reported₀ reported' text
@@ -172,14 +175,14 @@ if_some : (left : Option (List ℕ)) (Holds : List ℕ → Type 0) → ((bytes :
 if_some None Holds h = tt
 if_some (Some bytes) Holds h = h bytes refl
 
-module _ (budget : ℕ) (left₀ : Option (List ℕ)) (before now : ℕ) (p : ReaderState) (m : Moment) (count : ℕ) (v : DrawnRange) (reported₀ reported : Option (List ℕ)) (kept : List ℕ) (k : Tracked)
+module _ (budget : ℕ) (left₀ : Option (List ℕ)) (before now : ℕ) (p : ReaderState) (m : Moment) (count : ℕ) (v : DrawnRange) (reported₀ reported : Option (List ℕ)) (kept : List ℕ) (k : Drawn)
     (d : IsDrawing budget left₀ before p now m count v reported₀ reported kept k) (end : List ℕ) (reported' : Option (List ℕ)) (l : Layout) (same_l : l ≡ p.layout) where
   -- the sink failed between two events
   pub room_cut : AppendsPrefix reported reported' kept → IsCutOff budget v left₀ reported₀ reported'
   unfolding cut_picture
   room_cut f =
       let es = d.under_way.events in
-      let tail = ending p.layout v (tracked_since (extended [] es)) (length es) cut_words None in
+      let tail = ending p.layout v (drawn_since p.layout v (extended [] es)) (length es) cut_words None in
       let more : Pending reported₀ reported kept (cut_picture p.layout v es) tail = (d.flows.0, d.flows.1, ap (λ x. x ++ tail) (d.flows.2 ∙ append-nil (d.flows.0 ++ kept))) in
       let prefix : AppendsPrefix reported₀ reported' (cut_picture p.layout v es) = pending_fault reported₀ reported reported' kept (cut_picture p.layout v es) tail more f in
       if_some left₀ _ (cut_by budget left₀ before now p m count v reported₀ reported kept k d end reported' (cut_picture p.layout v es) (inr (inl refl)) prefix)
@@ -217,7 +220,7 @@ module _ (budget : ℕ) (left₀ : Option (List ℕ)) (before now : ℕ) (p : Re
       let prefix = pending_fault reported₀ reported reported' end (failed_picture p.layout v es e why) [] (failed_pending budget left₀ before now p m count v reported₀ reported kept k d end reported' e why (subst (λ x. end ≡ kept ++ failed_ending x v k count e why) same_l text)) f in
       if_some left₀ _ (cut_by budget left₀ before now p m count v reported₀ reported kept k d end reported' (failed_picture p.layout v es e why) (inr (inr (e, why, refl))) prefix)
 
-pub legal_got : (budget : ℕ) (left₀ : Option (List ℕ)) (before now : ℕ) (p p' : ReaderState) (m : Moment) (count : ℕ) (v : DrawnRange) (reported₀ reported : Option (List ℕ)) (kept : List ℕ) (k : Tracked) (d : IsDrawing budget left₀ before p now m count v reported₀ reported kept k) (end : List ℕ) (reported' : Option (List ℕ)) (l : Layout) (s : Summary) → l ≡ p.layout
+pub legal_got : (budget : ℕ) (left₀ : Option (List ℕ)) (before now : ℕ) (p p' : ReaderState) (m : Moment) (count : ℕ) (v : DrawnRange) (reported₀ reported : Option (List ℕ)) (kept : List ℕ) (k : Drawn) (d : IsDrawing budget left₀ before p now m count v reported₀ reported kept k) (end : List ℕ) (reported' : Option (List ℕ)) (l : Layout) (s : Summary) → l ≡ p.layout
     → budget < 2 ^ 64 - 1 → TakesEnd p p' → s.events ≡ count → s.held ≡ held m.layout (spec_of m) → s.waiting ≡ waiting m.layout (spec_of m) → s.alerted ≡ alerted m.layout (spec_of m)
     → IsEnding v.ordered l v k count s d.under_way.events end → Appends reported reported' (kept ++ end) → IsDrawn budget v left₀ reported₀ reported' (verdict.Legal s)
 unfolding ends_on
@@ -229,7 +232,7 @@ legal_got budget (Some bytes) before now p p' m count v reported₀ reported kep
   pending_sent reported₀ reported reported' (kept ++ end) (prefix_picture p.layout v d.under_way.events ++ end) (legal_pending budget (Some bytes) before now p m count v reported₀ reported kept k d end) sent,
 )
 
-pub failed_got : (budget : ℕ) (left₀ : Option (List ℕ)) (before now : ℕ) (p p' : ReaderState) (m : Moment) (count : ℕ) (v : DrawnRange) (reported₀ reported : Option (List ℕ)) (kept : List ℕ) (k : Tracked) (d : IsDrawing budget left₀ before p now m count v reported₀ reported kept k) (end : List ℕ) (reported' : Option (List ℕ)) (l : Layout) (e : Event) (why : Broken) → l ≡ p.layout
+pub failed_got : (budget : ℕ) (left₀ : Option (List ℕ)) (before now : ℕ) (p p' : ReaderState) (m : Moment) (count : ℕ) (v : DrawnRange) (reported₀ reported : Option (List ℕ)) (kept : List ℕ) (k : Drawn) (d : IsDrawing budget left₀ before p now m count v reported₀ reported kept k) (end : List ℕ) (reported' : Option (List ℕ)) (l : Layout) (e : Event) (why : Broken) → l ≡ p.layout
     → TakesEvent p p' e → Fails (spec_of m) e why → end ≡ kept ++ failed_ending l v k count e why → Appends reported reported' end → IsDrawn budget v left₀ reported₀ reported' (verdict.Illegal count why)
 unfolding fails_on
 failed_got budget None before now p p' m count v reported₀ reported kept k d end reported' l e why same_l t f text sent = tt

@@ -1,9 +1,11 @@
 pub mod Births
 pub mod Drawing
+pub mod Explained
 pub mod Parts
 pub mod Signals
 pub mod Lines
 pub mod Ringing
 pub mod RowsSeen
 pub mod Seeing
+pub mod Showing
 pub mod Waits

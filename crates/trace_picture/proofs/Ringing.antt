@@ -1,7 +1,7 @@
 -- What holds between two events of a drawing where it is kept what the events nest.
 use Rattle.std.proofs.Common.{◌≡◌, ℕ, zero, suc, ◌+◌, ◌-◌, ◌^◌, ◌<◌, ◌≤◌, Bool, true, List, [], ◌∷◌, ◌++◌, length, length-append, take, get_or, ap, sym, subst, ◌∙◌, append-nil, arith}
 use Rattle.std.specs.Prelude.{codes}
-use Rattle.std.specs.List.{AllByRecursion, flat_map}
+use Rattle.std.specs.List.{flat_map}
 use Rattle.std.specs.declared.option.Option.{Option}
 use Rattle.std.proofs.lemmas.List.{take_more}
 use Rattle.std.proofs.lemmas.List.Concat.{flat_map-append}
@@ -16,25 +16,23 @@ use Rattle.trace_core.specs.Whole.{Flows}
 use Rattle.trace_check.proofs.UnderWay.{starts_on, step_on}
 use Rattle.lock_order.specs.declared.answer.Edge.{Edge}
 use Rattle.lock_order.specs.declared.lock_graph.LockGraph.{LockGraph}
-use Rattle.lock_order.specs.Order.{IsFirst, ReportsCycle}
 use Rattle.lock_order.specs.Kept.{IsKept}
 use Rattle.trace_shapes.specs.declared.view.DrawnRange.{DrawnRange}
-use Rattle.trace_board.specs.Tracked.{Tracked, nothing_tracked, tracked_after}
+use Rattle.trace_picture.specs.Shown.{Drawn, nothing_drawn, drawn_after}
 use Rattle.trace_picture.specs.Picture.{head_text}
 use Rattle.trace_picture.specs.Bands.{step_text}
-use Rattle.trace_shapes.specs.Places.{band_of, event_x}
 use Rattle.trace_shapes.specs.Shapes.{with_number}
-use Rattle.trace_picture.specs.Rings.{ring_y, ring_text, nesting_text}
+use Rattle.trace_picture.specs.Rings.{nesting_text}
 use Rattle.trace_shapes.proofs.Added.{added_six}
 use Rattle.trace_picture.proofs.Drawing.{IsDrawing, drawing_starts, drawing_room, drawing_steps}
 
 -- so far these events were read and drawn, and where that is wanted it is kept what they nest
-pub record IsRinging (budget : ℕ) (left₀ : Option (List ℕ)) (before : ℕ) (st : ReaderState) (now : ℕ) (m : Moment) (count : ℕ) (v : DrawnRange) (reported₀ reported : Option (List ℕ)) (kept : List ℕ) (k : Tracked) (on : Bool) (n : LockGraph) : Type 0 where
+pub record IsRinging (budget : ℕ) (left₀ : Option (List ℕ)) (before : ℕ) (st : ReaderState) (now : ℕ) (m : Moment) (count : ℕ) (v : DrawnRange) (reported₀ reported : Option (List ℕ)) (kept : List ℕ) (k : Drawn) (on : Bool) (n : LockGraph) : Type 0 where
   pub drawing : IsDrawing budget left₀ before st now m count v reported₀ reported kept k
   pub noted : on ≡ true → IsKept drawing.under_way.events (spec_of m) n
 
-pub ringing_starts : (budget : ℕ) (left₀ : Option (List ℕ)) (before now : ℕ) (p p' : ReaderState) (l : Layout) (m : Moment) (v : DrawnRange) (reported : Option (List ℕ)) (kept : List ℕ) (k : Tracked) (on : Bool) (n : LockGraph)
-    → p.rest ≡ left₀ → p.room ≡ budget → p.lines ≡ 0 → TakesHead p p' l → before ≤ now → m.layout ≡ l → spec_of m ≡ at_first l.version → kept ≡ [] ++ head_text l → k ≡ nothing_tracked → ((version : Version) → IsKept [] (at_first version) n)
+pub ringing_starts : (budget : ℕ) (left₀ : Option (List ℕ)) (before now : ℕ) (p p' : ReaderState) (l : Layout) (m : Moment) (v : DrawnRange) (reported : Option (List ℕ)) (kept : List ℕ) (k : Drawn) (on : Bool) (n : LockGraph)
+    → p.rest ≡ left₀ → p.room ≡ budget → p.lines ≡ 0 → TakesHead p p' l → before ≤ now → m.layout ≡ l → spec_of m ≡ at_first l.version → kept ≡ [] ++ head_text l → k ≡ nothing_drawn → ((version : Version) → IsKept [] (at_first version) n)
     → IsRinging budget left₀ before p' now m 0 v reported reported kept k on n
 unfolding starts_on drawing_starts
 ringing_starts budget left₀ before now p p' l m v reported kept k on n rest room lines t le laid first text none empty = record {
@@ -42,7 +40,7 @@ ringing_starts budget left₀ before now p p' l m v reported kept k on n rest ro
   noted = λ wanted. subst (λ (z : Spec). IsKept [] z n) (sym first) (empty l.version);
 }
 
-module _ (budget : ℕ) (left₀ : Option (List ℕ)) (before now : ℕ) (p : ReaderState) (m : Moment) (count : ℕ) (v : DrawnRange) (reported₀ reported : Option (List ℕ)) (kept : List ℕ) (k : Tracked) (on : Bool) (n : LockGraph)
+module _ (budget : ℕ) (left₀ : Option (List ℕ)) (before now : ℕ) (p : ReaderState) (m : Moment) (count : ℕ) (v : DrawnRange) (reported₀ reported : Option (List ℕ)) (kept : List ℕ) (k : Drawn) (on : Bool) (n : LockGraph)
     (r : IsRinging budget left₀ before p now m count v reported₀ reported kept k on n) where
   pub ringing_room : (reported' : Option (List ℕ)) (kept' : List ℕ) → Flows reported reported' kept kept' [] → IsRinging budget left₀ before p now m count v reported₀ reported' kept' k on n
   unfolding drawing_room
@@ -51,8 +49,8 @@ module _ (budget : ℕ) (left₀ : Option (List ℕ)) (before now : ℕ) (p : Re
     noted = r.noted;
   }
 
-  pub ringing_steps : (now' : ℕ) (p' : ReaderState) (m' : Moment) (e : Event) (kept' : List ℕ) (k' : Tracked) (n' : LockGraph) (l : Layout) → l ≡ p.layout → budget < 2 ^ 64 - 1 → TakesEvent p p' e → Acts (spec_of m) e (spec_of m') → m'.layout ≡ m.layout → now ≤ now'
-      → kept' ≡ kept ++ step_text l v k count e → k' ≡ tracked_after count e k
+  pub ringing_steps : (now' : ℕ) (p' : ReaderState) (m' : Moment) (e : Event) (kept' : List ℕ) (k' : Drawn) (n' : LockGraph) (l : Layout) → l ≡ p.layout → budget < 2 ^ 64 - 1 → TakesEvent p p' e → Acts (spec_of m) e (spec_of m') → m'.layout ≡ m.layout → now ≤ now'
+      → kept' ≡ kept ++ step_text l v k.board count e → k' ≡ drawn_after l v count e k
       → (on ≡ true → (es : List Event) (s s' : Spec) → count ≡ length es → Acts s e s' → IsKept es s n → IsKept (es ++ e ∷ []) s' n')
       → IsRinging budget left₀ before p' now' m' (count + 1) v reported₀ reported kept' k' on n'
   unfolding step_on drawing_steps
@@ -60,24 +58,6 @@ module _ (budget : ℕ) (left₀ : Option (List ℕ)) (before now : ℕ) (p : Re
     drawing = drawing_steps budget left₀ before now p m count v reported₀ reported kept k r.drawing now' p' m' e kept' k' l same_l fits t a same le text turns;
     noted = λ wanted. notes wanted r.drawing.under_way.events (spec_of m) (spec_of m') (sym r.drawing.under_way.counted) a (r.noted wanted);
   }
-
--- the event of a nesting is one of the list
-first_near : (es : List Event) (n : Edge) → IsFirst es n → n.place < length es
-first_near es n f = omega (arith, f.nests.counted, ap length f.nests.split, length-append f.nests.before (f.nests.event ∷ f.nests.after))
-
-all_near : (es : List Event) (bound : ℕ) → length es ≤ bound → (ns : List Edge) → AllByRecursion (IsFirst es) ns → AllByRecursion (λ (n : Edge). n.place < bound) ns
-all_near es bound le [] h = tt
-all_near es bound le (n ∷ ns) h = (omega (arith, first_near es n h.0), all_near es bound le ns h.1)
-
--- the events of a cycle are below the bound that their count is below
-pub cycle_near : (es : List Event) (bound count : ℕ) (ns : List Edge) → ReportsCycle es ns → count ≡ length es → count < bound → AllByRecursion (λ (n : Edge). n.place < bound) ns
-cycle_near es bound count ns c counted few = all_near es bound (omega arith) ns c.firsts
-
--- one of them all
-pub one_near : (bound : ℕ) (ns : List Edge) (k : ℕ) (n : Edge) → k < length ns → n ≡ get_or ns k n → AllByRecursion (λ (n : Edge). n.place < bound) ns → n.place < bound
-one_near bound [] k n lt is h = absurd (omega arith)
-one_near bound (x ∷ ns) zero n lt is h = subst (λ (y : Edge). y.place < bound) (sym is) h.0
-one_near bound (x ∷ ns) (suc k) n lt is h = one_near bound ns k n (omega arith) is h.1
 
 -- one more text
 pub texts_at : {T : Type 0} (f : T → List ℕ) (ns : List T) (k : ℕ) (n : T) → k < length ns → flat_map f (take k ns) ++ f (get_or ns k n) ≡ flat_map f (take (k + 1) ns)
@@ -87,15 +67,6 @@ texts_at f ns k n lt =
 
 pub texts_more : (f : Edge → List ℕ) (ns : List Edge) (k : ℕ) (n : Edge) → k < length ns → n ≡ get_or ns k n → flat_map f (take k ns) ++ f n ≡ flat_map f (take (k + 1) ns)
 texts_more f ns k n lt is = ap (λ x. flat_map f (take k ns) ++ f x) is ∙ texts_at f ns k n lt
-
--- the pieces of a ring
-pub added_ring : (l : Layout) (v : DrawnRange) (n : Edge) (x y m k : ℕ) (old a b c d e f : List ℕ) → x ≡ event_x (band_of l v n.place) n.place → y ≡ ring_y l v n → m ≡ n.outer.0 → k ≡ n.inner.0
-    → a ≡ old ++ with_number (codes "<rect class='c' id='e") n.place → b ≡ a ++ with_number (codes "' width='22' height='15' rx='3' x='") x → c ≡ b ++ with_number (codes "' y='") y
-    → d ≡ c ++ with_number (codes "'><title>m") m → e ≡ d ++ with_number (codes " then m") k → f ≡ e ++ codes "</title></rect>\n" → f ≡ old ++ ring_text l v n
-unfolding ring_text
-added_ring l v n x y m k old a b c d e f ex ey em ek one two three four five six =
-    added_six old a b c _ _ _ _ _ one two three d e f _ four five six
-    ∙ (λ i. old ++ (with_number (codes "<rect class='c' id='e") n.place ++ with_number (codes "' width='22' height='15' rx='3' x='") (ex i) ++ with_number (codes "' y='") (ey i) ++ with_number (codes "'><title>m") (em i) ++ with_number (codes " then m") (ek i) ++ codes "</title></rect>\n"))
 
 -- the pieces of a step of a cycle
 pub added_nesting : (n : Edge) (m k t : ℕ) (old a b c d e f : List ℕ) → m ≡ n.outer.0 → k ≡ n.inner.0 → t ≡ n.thread.0

@@ -69,7 +69,7 @@ module _ (l : Layout) (v : DrawnRange) (k : Tracked) (n : ℕ) (e : Event) (seen
   row_there part rest is =
       let op = opening l v k n in
       let num = number_text b n in
-      let mark = mark_text b n e in
+      let mark = mark_text v.ordered b n e in
       let object = object_if b n e in
       let bars = bars_ended (up_to b n) k (marks e) in
       let arrow = arrows_at b k (origin_of n e) (marks e) in
@@ -78,7 +78,7 @@ module _ (l : Layout) (v : DrawnRange) (k : Tracked) (n : ℕ) (e : Event) (seen
         before = op ++ num;
         after = rest ++ (mark ++ (object ++ (bars ++ (arrow ++ cl))));
         text =
-            cond-true (in_view v n) (op ++ event_shapes b k n e ++ cl) [] seen
+            cond-true (in_view v n) (op ++ event_shapes v.ordered b k n e ++ cl) [] seen
             ∙ ap (λ x. op ++ (num ++ x ++ mark ++ object ++ bars ++ arrow) ++ cl) is ∙ there op num part rest mark object bars arrow cl;
       }
 
@@ -92,7 +92,7 @@ module _ (l : Layout) (v : DrawnRange) (k : Tracked) (n : ℕ) (e : Event) (seen
       let op = opening l v k n in
       let num = number_text b n in
       let life = life_row b n (marks e).life in
-      let mark = mark_text b n e in
+      let mark = mark_text v.ordered b n e in
       let object = object_if b n e in
       let bars = bars_ended (up_to b n) k (marks e) in
       let arrows = arrows_at b k (origin_of n e) (marks e) in
@@ -100,7 +100,7 @@ module _ (l : Layout) (v : DrawnRange) (k : Tracked) (n : ℕ) (e : Event) (seen
       record {
         before = op ++ num ++ life ++ mark ++ object ++ bars;
         after = cl;
-        text = cond-true (in_view v n) (op ++ event_shapes b k n e ++ cl) [] seen ∙ among op num life mark object bars arrows cl;
+        text = cond-true (in_view v n) (op ++ event_shapes v.ordered b k n e ++ cl) [] seen ∙ among op num life mark object bars arrows cl;
       }
 
   -- the arrow to it, and that to the thread that it forks, are among them

@@ -1,6 +1,6 @@
 -- What is drawn: marks, bars and lanes.
 use Rattle.std.proofs.Common.{◌≡◌, ℕ, suc, ◌+◌, ◌-◌, ◌*◌, ◌%◌, ◌<◌, ◌≤◌, Bool, true, false, cond, eqb, List, [], ◌∷◌, ◌++◌, length, length-append, refl, ap, sym, subst, ◌∙◌, append_assoc, Some, None, MatchOption, arith}
-use Rattle.std.specs.Prelude.{codes}
+use Rattle.std.specs.Prelude.{codes, ◌&&◌}
 use Rattle.std.specs.declared.option.Option.{Option}
 use mathlib.Core.Option.{none, some, Option as Optional}
 use Rattle.std.proofs.lemmas.Bool.{cond-true, true≢false}
@@ -22,17 +22,19 @@ use Rattle.trace_board.specs.Tracked.{Tracked, tracked_since, tracked_after, ext
 use Rattle.trace_shapes.specs.declared.view.Band.{Band}
 use Rattle.trace_shapes.specs.declared.view.Strip.{Strip}
 use Rattle.trace_shapes.specs.declared.geometry.TheConstants.{LEFT, COLUMN, MARK_TOP, LANE_TOP, LANE, BAR_GAP}
-use Rattle.trace_shapes.specs.Places.{in_view, band_of, bar_x, bar_width}
-use Rattle.trace_shapes.specs.Shapes.{place_text, box_text, bar_box, bar_name, bar_text, taken_text, span_text, given_text, line_of, number_text, mark_text, object_if, with_number}
+use Rattle.trace_shapes.specs.Places.{in_view, band_of, event_x, mark_y, bar_x, bar_width}
+use Rattle.trace_shapes.specs.Shapes.{begins, mark_id, place_text, box_text, bar_box, bar_name, bar_text, taken_text, span_text, given_text, line_of, number_text, mark_text, object_if, with_number}
 use Rattle.trace_picture.specs.Lives.{life_row}
 use Rattle.trace_picture.specs.Bands.{opening, closing_after, up_to, strip_of, taken_strip, bar_if, taken_if, bar_ended, taken_ended, wait_ended, bars_ended, arrows_at, event_shapes, step_text}
 use Rattle.trace_board.specs.Laws.{IsSince}
-use Rattle.trace_picture.specs.Seen.{kind_of, MarksDiffer, HasText, upper_of, EventsAreMarked, BarsAreDrawn, TakingsAreDrawn}
+use Rattle.lock_order.specs.Order.{got}
+use Rattle.trace_picture.proofs.Parts.{has_in}
+use Rattle.trace_picture.specs.Seen.{kind_of, MarksDiffer, HasText, upper_of, EventsAreMarked, RingsAreNamed, BarsAreDrawn, TakingsAreDrawn}
 use Rattle.trace_board.proofs.Extended.{length-extended}
 use Rattle.trace_board.proofs.Holding as holding
 
 -- the place of a letter among others
-index_of : ℕ → List ℕ → ℕ
+pub index_of : ℕ → List ℕ → ℕ
 index_of x [] = 0
 index_of x (y ∷ ys) = cond (eqb x y) 0 (suc (index_of x ys))
 
@@ -84,10 +86,6 @@ marks_differ = λ t u a b ne. (
   (λ e. ne (sym (by_shown t a) ∙ ap (λ x. index_of x (codes "ARWCSBPV!?wcxpyFEJ")) e ∙ by_shown u b)),
 )
 
-marked_there : (op num life part rest end object bars arrow cl : List ℕ)
-    → op ++ (num ++ life ++ (part ++ rest ++ end) ++ object ++ bars ++ arrow) ++ cl ≡ (op ++ num ++ life) ++ part ++ (rest ++ (end ++ (object ++ (bars ++ (arrow ++ cl)))))
-marked_there op num life part rest end object bars arrow cl = simp append_assoc
-
 barred_there : (op num life mark object name box height span given end more arrow cl : List ℕ)
     → op ++ (num ++ life ++ mark ++ object ++ ((name ++ box ++ height ++ span ++ given ++ end) ++ more) ++ arrow) ++ cl
     ≡ (op ++ num ++ life ++ mark ++ object) ++ (name ++ box) ++ (height ++ (span ++ (given ++ (end ++ (more ++ (arrow ++ cl))))))
@@ -98,27 +96,81 @@ taken_there : (op num life mark object bars name box height span end wait arrow 
     ≡ (op ++ num ++ life ++ mark ++ object ++ bars) ++ (name ++ box) ++ (height ++ (span ++ (end ++ (wait ++ (arrow ++ cl)))))
 taken_there op num life mark object bars name box height span end wait arrow cl = simp append_assoc
 
-pub events_are_marked : EventsAreMarked
-unfolding step_text event_shapes mark_text
-events_are_marked = λ l v k n e seen.
+marked_there : (op num life mark object bars arrow cl : List ℕ)
+    → op ++ (num ++ life ++ mark ++ object ++ bars ++ arrow) ++ cl ≡ (op ++ num ++ life) ++ mark ++ (object ++ (bars ++ (arrow ++ cl)))
+marked_there op num life mark object bars arrow cl = simp append_assoc
+
+mark_there : (l : Layout) (v : DrawnRange) (k : Tracked) (n : ℕ) (e : Event) → in_view v n ≡ true → HasText (step_text l v k n e) (mark_text v.ordered (band_of l v n) n e)
+unfolding step_text event_shapes
+mark_there l v k n e seen =
     let b = band_of l v n in
-    let column : n - b.start ≡ (n - v.first) % 50 = omega arith in
-    let tag = codes "<use href='#" ++ (look_of (marks e).mark).letter ∷ [] in
-    let place : ℕ → List ℕ = λ c. place_text (LEFT + COLUMN * c) (upper_of l e.thread.0 + MARK_TOP) in
-    let rest = codes "'><title>" ++ line_of n e in
-    let end = codes "</title></use>\n" in
+    let op = opening l v k n in
     let life = life_row b n (marks e).life in
+    let mark = mark_text v.ordered b n e in
     let object = object_if b n e in
     let bars = bars_ended (up_to b n) k (marks e) in
     let arrow = arrows_at b k (origin_of n e) (marks e) in
     let cl = closing_after l v (tracked_after n e k) n in
     record {
-      before = opening l v k n ++ number_text b n ++ life;
-      after = rest ++ (end ++ (object ++ (bars ++ (arrow ++ cl))));
-      text =
-          cond-true (in_view v n) (opening l v k n ++ event_shapes b k n e ++ cl) [] seen ∙ marked_there (opening l v k n) (number_text b n) life (tag ++ place (n - b.start)) rest end object bars arrow cl
-          ∙ ap (λ c. (opening l v k n ++ number_text b n ++ life) ++ (tag ++ place c) ++ (rest ++ (end ++ (object ++ (bars ++ (arrow ++ cl)))))) column;
+      before = op ++ number_text b n ++ life;
+      after = object ++ (bars ++ (arrow ++ cl));
+      text = cond-true (in_view v n) (op ++ event_shapes v.ordered b k n e ++ cl) [] seen ∙ marked_there op (number_text b n) life mark object bars arrow cl;
     }
+
+pub events_are_marked : EventsAreMarked
+unfolding mark_text
+events_are_marked = λ l v k n e seen.
+    let b = band_of l v n in
+    let column : n - b.start ≡ (n - v.first) % 50 = omega arith in
+    let tag = codes "<use href='#" ++ (look_of (marks e).mark).letter ∷ [] in
+    let place : ℕ → List ℕ = λ c. place_text (LEFT + COLUMN * c) (upper_of l e.thread.0 + MARK_TOP) in
+    let id = mark_id v.ordered n e in
+    let rest = codes "'><title>" ++ line_of n e in
+    let end = codes "</title></use>\n" in
+    has_in (step_text l v k n e) (mark_text v.ordered b n e) (tag ++ place ((n - v.first) % 50)) (mark_there l v k n e seen)
+    (record { before = []; after = id ++ (rest ++ end); text = at_once (tag ++ place (n - b.start)) id rest end ∙ ap (λ c. [] ++ (tag ++ place c) ++ (id ++ (rest ++ end))) column })
+  where
+    at_once : (part id rest end : List ℕ) → part ++ id ++ rest ++ end ≡ [] ++ part ++ (id ++ (rest ++ end))
+    at_once part id rest end = simp append_assoc
+
+-- an event by which a mutex is got takes it
+takes_got : (t : ℕ) (a : Action) (m : ℕ) → got a ≡ some m → begins (marks_of t a).mutex ≡ true
+takes_got t (Acquire x) m h = refl
+takes_got t (Resume x c) m h = refl
+takes_got t (AlertReturn x c) m h = refl
+takes_got t (AlertRaise x c) m h = refl
+takes_got t (Release x) m h = let bad : none ≡ some m = h in cc
+takes_got t (Enqueue x c) m h = let bad : none ≡ some m = h in cc
+takes_got t (AlertEnqueue x c) m h = let bad : none ≡ some m = h in cc
+takes_got t (Signal c left) m h = let bad : none ≡ some m = h in cc
+takes_got t (Broadcast c) m h = let bad : none ≡ some m = h in cc
+takes_got t (P s) m h = let bad : none ≡ some m = h in cc
+takes_got t (V s) m h = let bad : none ≡ some m = h in cc
+takes_got t (Alert who) m h = let bad : none ≡ some m = h in cc
+takes_got t (TestAlert b) m h = let bad : none ≡ some m = h in cc
+takes_got t (AlertPReturn s) m h = let bad : none ≡ some m = h in cc
+takes_got t (AlertPRaise s) m h = let bad : none ≡ some m = h in cc
+takes_got t (Fork who) m h = let bad : none ≡ some m = h in cc
+takes_got t End m h = let bad : none ≡ some m = h in cc
+takes_got t (Join who) m h = let bad : none ≡ some m = h in cc
+
+pub rings_are_named : RingsAreNamed
+unfolding mark_text
+rings_are_named = λ l v k es n ordered f seen.
+    let b = band_of l v n.place in
+    let e = f.event in
+    let tag = codes "<use href='#" ++ (look_of (marks e).mark).letter ∷ [] in
+    let place = place_text (event_x b n.place) (mark_y b e.thread.0) in
+    let name = with_number (codes "' id='e") n.place in
+    let title = codes "'><title>" ++ line_of n.place e in
+    let end = codes "</title></use>\n" in
+    let both : (v.ordered && begins (marks e).mutex) ≡ true = ap (λ x. x && begins (marks e).mutex) ordered ∙ takes_got e.thread.0 e.action n.inner.0 f.gets in
+    let id : mark_id v.ordered n.place e ≡ name = cond-true (v.ordered && begins (marks e).mutex) name [] both in
+    has_in (step_text l v k n.place e) (mark_text v.ordered b n.place e) (name ++ title) (mark_there l v k n.place e seen)
+    (record { before = tag ++ place; after = end; text = ap (λ x. (tag ++ place) ++ x ++ title ++ end) id ∙ inside (tag ++ place) name title end })
+  where
+    inside : (a b c d : List ℕ) → a ++ b ++ c ++ d ≡ a ++ (b ++ c) ++ d
+    inside a b c d = simp append_assoc
 
 -- the bar that the event ends is in what it adds
 module _ (l : Layout) (v : DrawnRange) (k : Tracked) (n : ℕ) (e : Event) (seen : in_view v n ≡ true) (m : ℕ) (o : Origin) where
@@ -145,7 +197,7 @@ module _ (l : Layout) (v : DrawnRange) (k : Tracked) (n : ℕ) (e : Event) (seen
       let op = opening l v k n in
       let num = number_text b n in
       let life = life_row b n (marks e).life in
-      let mark = mark_text b n e in
+      let mark = mark_text v.ordered b n e in
       let object = object_if b n e in
       let arrow = arrows_at b k (origin_of n e) (marks e) in
       let cl = closing_after l v (tracked_after n e k) n in
@@ -162,7 +214,7 @@ module _ (l : Layout) (v : DrawnRange) (k : Tracked) (n : ℕ) (e : Event) (seen
         before = op ++ num ++ life ++ mark ++ object;
         after = height ++ (span ++ (given ++ (end ++ ((taken ++ wait) ++ (arrow ++ cl)))));
         text =
-            cond-true (in_view v n) (op ++ event_shapes b k n e ++ cl) [] seen
+            cond-true (in_view v n) (op ++ event_shapes v.ordered b k n e ++ cl) [] seen
             ∙ ap (λ b. op ++ (num ++ life ++ mark ++ object ++ b ++ arrow) ++ cl) (append_assoc (bar_ended (up_to b n) k (marks e).mutex) taken wait ∙ ap (λ b. b ++ (taken ++ wait)) is)
             ∙ barred_there op num life mark object name (box_at strip.lane) height span given end (taken ++ wait) arrow cl;
       }
@@ -174,7 +226,7 @@ module _ (l : Layout) (v : DrawnRange) (k : Tracked) (n : ℕ) (e : Event) (seen
       let op = opening l v k n in
       let num = number_text b n in
       let life = life_row b n (marks e).life in
-      let mark = mark_text b n e in
+      let mark = mark_text v.ordered b n e in
       let object = object_if b n e in
       let bars = bar_ended (up_to b n) k (marks e).mutex in
       let arrow = arrows_at b k (origin_of n e) (marks e) in
@@ -191,7 +243,7 @@ module _ (l : Layout) (v : DrawnRange) (k : Tracked) (n : ℕ) (e : Event) (seen
         before = op ++ num ++ life ++ mark ++ object ++ bars;
         after = height ++ (span ++ (end ++ (wait ++ (arrow ++ cl))));
         text =
-            cond-true (in_view v n) (op ++ event_shapes b k n e ++ cl) [] seen
+            cond-true (in_view v n) (op ++ event_shapes v.ordered b k n e ++ cl) [] seen
             ∙ ap (λ b. op ++ (num ++ life ++ mark ++ object ++ (bars ++ b ++ wait) ++ arrow) ++ cl) is
             ∙ taken_there op num life mark object bars name (box_at strip.lane) height span end wait arrow cl;
       }

@@ -34,7 +34,7 @@ module _ (l : Layout) (v : DrawnRange) (k : Tracked) (n : ℕ) (e : Event) (seen
       let op = opening l v k n in
       let num = number_text b n in
       let life = life_row b n (marks e).life in
-      let mark = mark_text b n e in
+      let mark = mark_text v.ordered b n e in
       let object = object_if b n e in
       let r = up_to b n in
       let bar = bar_ended r k (marks e).mutex in
@@ -49,7 +49,7 @@ module _ (l : Layout) (v : DrawnRange) (k : Tracked) (n : ℕ) (e : Event) (seen
         before = op ++ num ++ life ++ mark ++ object ++ bar ++ taken;
         after = wait_name_if r o ++ (arrow ++ cl);
         text =
-            cond-true (in_view v n) (op ++ event_shapes b k n e ++ cl) [] seen
+            cond-true (in_view v n) (op ++ event_shapes v.ordered b k n e ++ cl) [] seen
             ∙ ap (λ w. op ++ (num ++ life ++ mark ++ object ++ (bar ++ taken ++ w) ++ arrow) ++ cl) is
             ∙ waited_there op num life mark object bar taken (parts_text r o (Some by)) (wait_name_if r o) arrow cl;
       }

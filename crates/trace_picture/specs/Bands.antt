@@ -1,5 +1,5 @@
 -- What each event adds to the picture.
-use Rattle.std.specs.Prelude.{ℕ, ◌+◌, ◌-◌, ◌/◌, ◌==◌, nat_lt, true, false, if◌then◌else◌, List, [], ◌++◌, codes, Some, None}
+use Rattle.std.specs.Prelude.{ℕ, ◌+◌, ◌-◌, ◌/◌, ◌==◌, nat_lt, Bool, true, false, if◌then◌else◌, List, [], ◌++◌, codes, Some, None}
 use Rattle.std.specs.declared.option.Option.{Option}
 use Rattle.larch_actions.specs.declared.event.Layout.{Layout}
 use Rattle.larch_actions.specs.declared.event.Event.{Event}
@@ -165,16 +165,19 @@ fork_by b o _ = []
 unfoldable pub arrows_at : Band → Tracked → Origin → Effects → List ℕ
 arrows_at b k o m = arrow_by b k o m.wait m.waker ++ wakes_by b o k.stands m.stand ++ fork_by b o m.life
 
--- the event n: the row that it begins or ends, its mark and the number of its object, the bars that it ends, and the arrows from it and to it
-unfoldable pub event_shapes : Band → Tracked → ℕ → Event → List ℕ
-event_shapes b k n e =
-    number_text b n ++ life_row b n (marks e).life ++ mark_text b n e ++ object_if b n e ++ bars_ended (up_to b n) k (marks e)
-    ++ arrows_at b k (origin_of n e) (marks e)
+-- the event n: the row that it begins or ends, its mark and the number of its object, and the bars that it ends
+abbrev pub event_marks : Bool → Band → Tracked → ℕ → Event → List ℕ
+event_marks ordered b k n e =
+    number_text b n ++ life_row b n (marks e).life ++ mark_text ordered b n e ++ object_if b n e ++ bars_ended (up_to b n) k (marks e)
+
+-- and the arrows from it and to it
+unfoldable pub event_shapes : Bool → Band → Tracked → ℕ → Event → List ℕ
+event_shapes ordered b k n e = event_marks ordered b k n e ++ arrows_at b k (origin_of n e) (marks e)
 
 -- all that the event n adds, where it is drawn
 unfoldable pub step_text : Layout → DrawnRange → Tracked → ℕ → Event → List ℕ
 step_text l v k n e =
-    if in_view v n then opening l v k n ++ event_shapes (band_of l v n) k n e ++ closing_after l v (tracked_after n e k) n else []
+    if in_view v n then opening l v k n ++ event_shapes v.ordered (band_of l v n) k n e ++ closing_after l v (tracked_after n e k) n else []
 
 -- all that an event that fails adds, where it is drawn: it ends its band, and the bars that go on end before it
 unfoldable pub failing_text : Layout → DrawnRange → Tracked → ℕ → Event → Broken → List ℕ

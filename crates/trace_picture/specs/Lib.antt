@@ -1,6 +1,7 @@
 pub mod Lives
 pub mod Overview
 pub mod Bands
+pub mod Shown
 pub mod Longest
 pub mod Verdicts
 pub mod Picture

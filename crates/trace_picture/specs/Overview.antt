@@ -1,5 +1,5 @@
 -- The overview: a column for each band, which links to it, with the threads that had an event in it and the mutexes that were held. A style at the end of the picture
--- shows it where there are more than ten bands, above them: it moves them down.
+-- shows it where there are more than ten bands, above them.
 use Rattle.std.specs.Prelude.{ℕ, ◌+◌, ◌-◌, ◌*◌, ◌/◌, ◌%◌, nat_lt, if◌then◌else◌, List, [], ◌++◌, codes, Some, None}
 use Rattle.std.specs.declared.option.Option.{Option}
 use Rattle.larch_actions.specs.declared.event.Layout.{Layout}
@@ -53,11 +53,9 @@ column_text l k band start to =
 abbrev pub over_height : Layout → DrawnRange → ℕ → ℕ
 over_height l v n = if nat_lt 10 (bands v n) then (bands v n + 99) / 100 * columns_height l + 24 else 0
 
--- what shows the overview, and moves the rest down by its height
+-- what shows the overview, above the bands
 abbrev pub over_style : Layout → DrawnRange → ℕ → List ℕ
 over_style l v n =
     if nat_lt 10 (bands v n) then
-    with_number (codes "px)}.w{transform:translate(0,") (over_height l v n)
-    ++ with_number (codes "px)}.u{display:inline;transform:translate(0,112px) translate(0,-") (over_height l v n)
-    ++ codes "px)}</style>\n</svg>\n"
+    with_number (codes "px)}.u{display:inline;transform:translate(0,8px) translate(0,-") (over_height l v n) ++ codes "px)}</style>\n</svg>\n"
     else codes "px)}</style>\n</svg>\n"

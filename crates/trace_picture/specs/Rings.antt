@@ -1,4 +1,4 @@
--- The rings around the events of a cycle of the lock order, and how the picture of a legal trace ends.
+-- The rings that mark the events of a cycle of the lock order, and how the picture of a legal trace ends.
 use Rattle.std.specs.Prelude.{◌≡◌, ◌⊎◌, ℕ, ◌+◌, if◌then◌else◌, Bool, true, false, List, [], ◌++◌, length, codes, Some, Result, OnOk, OnErr}
 use Rattle.std.specs.List.{flat_map}
 use Rattle.std.specs.Io.KnownBytes.{Appends}
@@ -13,32 +13,19 @@ use Rattle.lock_order.specs.declared.lock_graph.LockGraph.{LockGraph}
 use Rattle.lock_order.specs.Order.{HasCycle, ReportsCycle}
 use Rattle.lock_order.specs.Kept.{IsKept}
 use Rattle.trace_shapes.specs.declared.view.DrawnRange.{DrawnRange}
-use Rattle.trace_board.specs.Tracked.{Tracked, tracked_since, extended}
-use Rattle.trace_shapes.specs.Places.{in_view, band_of, event_x, mark_y, band_top}
+use Rattle.trace_board.specs.Tracked.{extended}
 use Rattle.trace_shapes.specs.Shapes.{with_number}
-use Rattle.trace_picture.specs.Bands.{band_number}
+use Rattle.trace_picture.specs.Shown.{Drawn, drawn_since}
 use Rattle.trace_picture.specs.Verdicts.{legal_words, counted_line}
 use Rattle.trace_picture.specs.declared.verdicts.TheConstants.{TWO_LINES}
 use Rattle.trace_picture.specs.Picture.{closing_if, end_text, ending, prefix_picture}
 
--- the upper edge of the mark of the event by which the inner mutex was got while the outer one was held
-abbrev pub ring_y : Layout → DrawnRange → Edge → ℕ
-ring_y l v n = band_top l (band_number v (band_of l v n.place)) + mark_y (band_of l v n.place) n.thread.0
+-- the edge of the mark of the event by which the inner mutex was got while the outer one was held
+unfoldable pub ring_text : Edge → List ℕ
+ring_text n = with_number (codes "<style>#e") n.place ++ codes "{stroke:#cf222e;stroke-width:3}</style>\n"
 
--- an edge of this mark, with the two mutexes as its title
-unfoldable pub ring_text : Layout → DrawnRange → Edge → List ℕ
-ring_text l v n =
-    with_number (codes "<rect class='c' id='e") n.place
-    ++ with_number (codes "' width='22' height='15' rx='3' x='") (event_x (band_of l v n.place) n.place)
-    ++ with_number (codes "' y='") (ring_y l v n) ++ with_number (codes "'><title>m") n.outer.0
-    ++ with_number (codes " then m") n.inner.0 ++ codes "</title></rect>\n"
-
--- the ring, where the event is drawn
-abbrev pub ring_if : Layout → DrawnRange → Edge → List ℕ
-ring_if l v n = if in_view v n.place then ring_text l v n else []
-
-abbrev pub rings_text : Layout → DrawnRange → List Edge → List ℕ
-rings_text l v ns = flat_map (ring_if l v) ns
+abbrev pub rings_text : List Edge → List ℕ
+rings_text ns = flat_map ring_text ns
 
 abbrev pub ringed_words : List ℕ
 ringed_words = codes "<text class='hd' x='44' y='18'><tspan class='ok'>legal</tspan>, a lock-order cycle is ringed, events: "
@@ -60,24 +47,24 @@ abbrev pub ringed_line : DrawnRange → ℕ → Summary → List Edge → List �
 ringed_line v n s ns = counted_line v n ringed_words (Some s) ++ cycle_text ns
 
 -- the end of the picture of n events, with rings around the events of this cycle
-abbrev pub ringed_ending : Layout → DrawnRange → Tracked → ℕ → Summary → List Edge → List ℕ
-ringed_ending l v k n s ns = closing_if l v k n ++ rings_text l v ns ++ end_text l v k n TWO_LINES (ringed_line v n s ns)
+abbrev pub ringed_ending : Layout → DrawnRange → Drawn → ℕ → Summary → List Edge → List ℕ
+ringed_ending l v d n s ns = closing_if l v d.board n ++ rings_text ns ++ end_text l v d n TWO_LINES (ringed_line v n s ns)
 
 -- A cycle of the events is ringed, or they have none and this is said.
-abbrev pub ShowsOrdered : Layout → DrawnRange → Tracked → ℕ → Summary → List Event → List ℕ → Type 0
-ShowsOrdered l v k n s es text =
-    ((ns : List Edge) × ReportsCycle es ns × (text ≡ ringed_ending l v k n s ns))
-    ⊎ ((¬ HasCycle es) × (text ≡ ending l v k n no_cycle_words (Some s)))
+abbrev pub ShowsOrdered : Layout → DrawnRange → Drawn → ℕ → Summary → List Event → List ℕ → Type 0
+ShowsOrdered l v d n s es text =
+    ((ns : List Edge) × ReportsCycle es ns × (text ≡ ringed_ending l v d n s ns))
+    ⊎ ((¬ HasCycle es) × (text ≡ ending l v d n no_cycle_words (Some s)))
 
 -- the end of the picture of n legal events with these counts, where the lock order is wanted or not
-abbrev pub IsEnding : Bool → Layout → DrawnRange → Tracked → ℕ → Summary → List Event → List ℕ → Type 0
-IsEnding false l v k n s es text = text ≡ ending l v k n legal_words (Some s)
-IsEnding true l v k n s es text = ShowsOrdered l v k n s es text
+abbrev pub IsEnding : Bool → Layout → DrawnRange → Drawn → ℕ → Summary → List Event → List ℕ → Type 0
+IsEnding false l v d n s es text = text ≡ ending l v d n legal_words (Some s)
+IsEnding true l v d n s es text = ShowsOrdered l v d n s es text
 
 -- the whole picture of a legal trace with these counts
 abbrev pub IsLegalPicture : Layout → DrawnRange → Summary → List Event → List ℕ → Type 0
 IsLegalPicture l v s es text =
-    (end : List ℕ) × IsEnding v.ordered l v (tracked_since (extended [] es)) (length es) s es end × (text ≡ prefix_picture l v es ++ end)
+    (end : List ℕ) × IsEnding v.ordered l v (drawn_since l v (extended [] es)) (length es) s es end × (text ≡ prefix_picture l v es ++ end)
 
 -- it is kept what n events nest
 abbrev pub AreNoted : LockGraph → ℕ → Type 0

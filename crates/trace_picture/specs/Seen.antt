@@ -1,5 +1,6 @@
 -- What the marks and the bars that are drawn say.
-use Rattle.std.specs.Prelude.{◌≡◌, ◌≢◌, ℕ, ◌+◌, ◌-◌, ◌*◌, ◌%◌, ◌<◌, ◌≤◌, true, false, if◌then◌else◌, List, [], ◌∷◌, ◌++◌, length, codes, Some, MatchOption}
+use Rattle.std.specs.Prelude.{◌≡◌, ◌≢◌, ℕ, ◌+◌, ◌-◌, ◌*◌, ◌%◌, ◌<◌, ◌≤◌, true, false, if◌then◌else◌, List, [], ◌∷◌, ◌++◌, length, codes, is_some, Some, MatchOption}
+use Rattle.std.specs.declared.option.Option.{Option}
 use Rattle.larch_actions.specs.declared.event.Layout.{Layout}
 use Rattle.larch_actions.specs.declared.event.Version.TheVariants.{Two}
 use Rattle.larch_actions.specs.declared.event.ThreadId.{ThreadId}
@@ -8,21 +9,27 @@ use Rattle.larch_actions.specs.declared.event.Action.{Action}
 use Rattle.larch_actions.specs.declared.event.Action.TheVariants.{Acquire, Release, Enqueue, Resume, AlertEnqueue, AlertReturn, AlertRaise, Signal, Broadcast, P, V, Alert, TestAlert, AlertPReturn, AlertPRaise, Fork, End, Join}
 use Rattle.larch_actions.specs.Actions.{Spec, acted, IsRun, MayAct}
 use Rattle.trace_board.specs.declared.history.Origin.{Origin}
+use Rattle.lock_order.specs.declared.answer.Edge.{Edge}
+use Rattle.lock_order.specs.Order.{Nests}
 use Rattle.trace_board.specs.declared.history.Change.TheVariants.{Ends}
 use Rattle.trace_board.specs.declared.rows.Bar.{Bar}
 use Rattle.trace_board.specs.declared.rows.Bar.TheVariants.{Mutex, Semaphore}
 use Rattle.trace_shapes.specs.declared.view.DrawnRange.{DrawnRange}
+use Rattle.trace_board.specs.declared.marks.Mark.{Mark}
 use Rattle.trace_shapes.specs.Looks.{look_of}
+use Rattle.trace_shapes.specs.declared.legend.Entry.TheVariants.{OfMark}
+use Rattle.trace_shapes.specs.Legend.{entry_text, legend_text}
 use Rattle.trace_board.specs.Marks.{marks, marks_of}
 use Rattle.trace_board.specs.History.{origin_of}
 use Rattle.trace_board.specs.Tracked.{Tracked, tracked_since, extended, longest_in, forked_by, let_on_by}
 use Rattle.trace_shapes.specs.declared.view.Band.{Band}
 use Rattle.trace_shapes.specs.declared.geometry.TheConstants.{BAND, COLUMN, LEFT, AXIS, MARK_TOP, LANE_TOP, LANE, BAR_GAP, ROW_RIGHT}
 use Rattle.trace_shapes.specs.Places.{in_view, column, band_of, lanes_of, row_step, row_height, bar_x, bar_width}
-use Rattle.trace_shapes.specs.Shapes.{each_below, place_text, box_text, row_text, parts_text, with_number}
+use Rattle.trace_shapes.specs.Shapes.{each_below, place_text, box_text, row_text, parts_text, with_number, line_of}
 use Rattle.trace_shapes.specs.declared.view.Shape.TheVariants.{Joined}
 use Rattle.trace_shapes.specs.Arrows.{link, arrow_text, wake_text, fork_text}
 use Rattle.trace_picture.specs.Bands.{up_to, opening, step_text}
+use Rattle.trace_picture.specs.Shown.{shown_since}
 use Rattle.trace_picture.specs.Picture.{end_text}
 use Rattle.trace_board.specs.Laws.{IsSince, IsMadeBy, HasEvent, is_live, is_ended, awaited_by}
 
@@ -60,6 +67,18 @@ pub record HasText (whole part : List ℕ) : Type 0 where
   pub after : List ℕ
   pub text : whole ≡ before ++ part ++ after
 
+-- The mark of each event in view has its entry in the legend, however the trace goes on.
+abbrev pub MarksAreExplained : Type 0
+MarksAreExplained =
+    (l : Layout) (v : DrawnRange) (past : List Event) (e : Event) (es : List Event) → in_view v (length past) ≡ true
+    → (before : ℕ) × HasText (legend_text (shown_since l v (extended (e ∷ past) es))) (entry_text before (OfMark (marks e).mark))
+
+-- A mark that the legend explains is that of an event in view.
+abbrev pub DrawnAreExplained : Type 0
+DrawnAreExplained =
+    (l : Layout) (v : DrawnRange) (past : List Event) (m : Mark) → is_some (shown_since l v past (look_of m).letter) ≡ true
+    → (after before : List Event) × (e : Event) × (past ≡ after ++ e ∷ before) × (in_view v (length before) ≡ true) × ((marks e).mark ≡ m)
+
 -- the left edge of the column of the event n, and the upper edge of the row of the thread t
 abbrev pub left_of : DrawnRange → ℕ → ℕ
 left_of v n = LEFT + COLUMN * ((n - v.first) % BAND)
@@ -73,6 +92,13 @@ EventsAreMarked =
     (l : Layout) (v : DrawnRange) (k : Tracked) (n : ℕ) (e : Event) → in_view v n ≡ true
     → HasText (step_text l v k n e) ((codes "<use href='#" ++ (look_of (marks e).mark).letter ∷ [])
     ++ place_text (left_of v n) (upper_of l e.thread.0 + MARK_TOP))
+
+-- Where the lock order is wanted, the mark of each event in view by which a mutex is got in another is called by its place, as the rings call the marks of a cycle.
+abbrev pub RingsAreNamed : Type 0
+RingsAreNamed =
+    (l : Layout) (v : DrawnRange) (k : Tracked) (es : List Event) (n : Edge) → v.ordered ≡ true
+    → (f : Nests es n.outer.0 n.inner.0 n.thread.0 n.place) → in_view v n.place ≡ true
+    → HasText (step_text l v k n.place f.event) (with_number (codes "' id='e") n.place ++ (codes "'><title>" ++ line_of n.place f.event))
 
 -- The bar that ends with the event at the place n, in the band b of the layout l, as a tag that begins so: it goes from the event that took what the bar
 -- is of, in the row of the thread that did, from the left edge of the column of the taking, or of the band's first, up to the gap before the next.
@@ -175,10 +201,10 @@ WaitsAreDrawn =
 -- The last lines of a picture show the longest hold of each mutex: by whom, how many events, from which event to which, or that there is none.
 abbrev pub HoldsAreReported : Type 0
 HoldsAreReported =
-    (l : Layout) (v : DrawnRange) (past : List Event) (n high : ℕ) (words : List ℕ) (m : ℕ) → m < l.mutexes
+    (l : Layout) (v : DrawnRange) (past : List Event) (shown : ℕ → Option Origin) (n high : ℕ) (words : List ℕ) (m : ℕ) → m < l.mutexes
     → MatchOption (longest_in (tracked_since past) n m)
-    (HasText (end_text l v (tracked_since past) n high words) ((with_number (codes "'><title>m") m ++ codes "</title>") ++ codes "never held"))
-    (λ h. HasText (end_text l v (tracked_since past) n high words) ((with_number (codes "'><title>m") m ++ codes "</title>")
+    (HasText (end_text l v (record { board = tracked_since past; shown = shown }) n high words) ((with_number (codes "'><title>m") m ++ codes "</title>") ++ codes "never held"))
+    (λ h. HasText (end_text l v (record { board = tracked_since past; shown = shown }) n high words) ((with_number (codes "'><title>m") m ++ codes "</title>")
     ++ (with_number (codes "longest: t") h.since.thread.0 ++ with_number (codes ", events: ") (h.last - h.since.place)
     ++ with_number (codes ", ") h.since.place
     ++ (if h.ended then with_number (codes " to ") h.last else codes " on"))))

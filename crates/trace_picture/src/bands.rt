@@ -1,24 +1,26 @@
 //! What each event adds to the picture.
-ghost use Rattle.std.specs.Prelude.{◌≡◌, ◌+◌, ◌-◌, ◌*◌, ◌<◌, ◌≤◌, ◌^◌, ◌++◌, length, take, codes, false, ℕ, None};
+ghost use Rattle.std.specs.Prelude.{◌≡◌, ◌+◌, ◌-◌, ◌*◌, ◌<◌, ◌≤◌, ◌^◌, ◌++◌, length, take, codes, true, false, ℕ, None};
 ghost use Rattle.larch_actions.specs.Layout.{IsLawful, HasNames};
-ghost use Rattle.trace_board.specs.History.{entry_of, IsWithin};
+ghost use Rattle.trace_board.specs.History.{entry_of, origin_of, IsWithin};
 ghost use Rattle.trace_board.specs.Causes.{cause_of};
 ghost use Rattle.trace_board.specs.Tracked.{tracked_of, tracked_after, came, IsNoted, IsNear};
 ghost use Rattle.trace_board.specs.Marks.{marks};
-ghost use Rattle.trace_shapes.specs.Places.{in_view, column, is_open, band_of, first_top, band_height, band_top};
+ghost use Rattle.trace_shapes.specs.Places.{in_view, column, is_open, band_of, band_height, band_top};
 ghost use Rattle.trace_shapes.specs.Shapes.{with_number, each_below, number_text, object_if, failed_text};
-ghost use Rattle.trace_picture.specs.Bands.{band_number, lines_height, lines_text, band_tag, opening, on_to, up_to, strip_of, taken_strip, bar_if, taken_if, wait_if, bars_on, band_end, closing, bar_ended, taken_ended, wait_ended, closing_after, bars_ended, event_shapes, step_text, failing_text};
+ghost use Rattle.trace_picture.specs.Bands.{band_number, lines_height, lines_text, band_tag, opening, on_to, up_to, strip_of, taken_strip, bar_if, taken_if, wait_if, bars_on, band_end, closing, bar_ended, taken_ended, wait_ended, closing_after, bars_ended, event_marks, event_shapes, arrows_at, step_text, failing_text};
+ghost use Rattle.trace_picture.specs.Shown.{drawn_of, has_text, opened, shown_by, drawn_after};
 
 use crate::arrows::add_arrows;
 use crate::lives::{add_life_row, add_rows};
 use crate::overview::add_column;
-use larch_actions::{Broken, Event, Layout, Version};
+use crate::shown::{Drawing, note_event, note_opening};
+use larch_actions::{Broken, Event, Layout};
 use trace_board::board::{Reason, TraceState};
 use trace_board::history::{Change, Origin};
 use trace_board::marks::{Effects, marks_of};
 use trace_board::rows::Bar;
 use trace_core::add;
-use trace_shapes::geometry::{AXIS, BAND, BAND_GAP, LINES_TOP, TOP_ONE, TOP_TWO};
+use trace_shapes::geometry::{AXIS, BAND, BAND_GAP, LINES_TOP};
 use trace_shapes::shapes::{
     add_bar, add_failed, add_label, add_mark, add_object_if, add_taken_bar, add_wait_bar, row_step,
 };
@@ -26,17 +28,6 @@ use trace_shapes::tags::add_with_number;
 use trace_shapes::view::{
     Band, DrawnRange, Reach, Strip, band_of, column_of, is_band_open, is_in_view, lanes_of,
 };
-
-// The upper edge of the first band.
-fn first_top(version: Version) -> u64
-    ensures top { result ≡ first_top version }
-    ensures small { result ≤ 1000 }
-{
-    match version {
-        Version::One => TOP_ONE,
-        Version::Two => TOP_TWO,
-    }
-}
 
 // How far below one another the bands stand.
 #[tactic(auto, using(larch_actions::proofs::Names::few_threads))]
@@ -49,18 +40,18 @@ fn height_of_band(layout: &Layout) -> u64
     row_step(lanes_of(layout)) * u64::from(layout.threads) + (AXIS + BAND_GAP)
 }
 
-/// The upper edge of a band.
+/// The upper edge of a band, below the legend.
 pub fn top_of(layout: &Layout, band: u64) -> u64
     requires lawful { IsLawful layout.now }
     requires few { band < 2 ^ 42 }
     ensures top { result ≡ band_top layout.now band }
     ensures small { result < 2 ^ 60 }
 {
-    first_top(layout.version) + band * height_of_band(layout)
+    band * height_of_band(layout)
 }
 
-/// The number of a band.
-pub fn number_of(view: &DrawnRange, band: &Band) -> u64
+// The number of a band.
+fn number_of(view: &DrawnRange, band: &Band) -> u64
     ensures number { result ≡ band_number view.now band.now }
     ensures small { result ≤ band.now.start }
 {
@@ -419,24 +410,24 @@ fn add_bars_ended(
     add_wait_ended(buf, at, reach, board, by, shown.wait)
 }
 
-// Adds the number of an event, the row that it begins or ends, its mark and the number of its object, the bars that it ends, and the arrows from it and to it.
-#[tactic(auto, unfolding(crate::specs::Bands::event_shapes))]
-fn add_event_shapes(
+// Adds the number of an event, the row that it begins or ends, its mark and the number of its object, and the bars that it ends.
+fn add_event_marks(
     buf: &mut [u8],
     at: usize,
     band: &Band,
     board: &TraceState,
     place: u64,
     e: &Event,
+    shown: &Effects,
+    ordered: bool,
 ) -> usize
     requires noted { IsNoted e.now }
-    requires threads { band.now.threads ≤ 256 }
+    requires same { shown.now ≡ marks e.now }
     requires few { place < 2 ^ 41 }
-    requires room { at + 99300 ≤ length buf.old }
-    ensures text { take result buf.new ≡ take at buf.old ++ event_shapes band.now (tracked_of board.now) place e.now }
-    ensures near { result ≤ at + 99300 }
+    requires room { at + 5000 ≤ length buf.old }
+    ensures text { take result buf.new ≡ take at buf.old ++ event_marks ordered band.now (tracked_of board.now) place e.now }
+    ensures near { result ≤ at + 5000 }
 {
-    let shown = marks_of(e.thread, &e.action);
     let reach = Reach {
         band: *band,
         to: place + 1,
@@ -444,44 +435,83 @@ fn add_event_shapes(
     };
     let at = add_label(buf, at, band, place);
     let at = add_life_row(buf, at, band, place, shown.life);
-    let at = add_mark(buf, at, band, place, e, &shown);
-    let at = add_object_if(buf, at, band, place, e, &shown);
-    let at = add_bars_ended(buf, at, &reach, board, &shown);
-    let by = Origin {
-        thread: e.thread,
-        object: shown.object,
-        place,
-    };
-    add_arrows(buf, at, band, board, &by, &shown)
+    let at = add_mark(buf, at, ordered, band, place, e, shown);
+    let at = add_object_if(buf, at, band, place, e, shown);
+    add_bars_ended(buf, at, &reach, board, shown)
 }
 
-// Adds what the event shows, and the end of its band, where it is drawn.
-#[tactic(auto, using(larch_actions::proofs::Names::few_threads))]
-fn add_drawn(
+// Adds these and the arrows from the event and to it, and notes what was drawn.
+#[tactic(auto, using(larch_actions::proofs::Names::few_threads), unfolding(crate::specs::Bands::event_shapes))]
+fn add_event_shapes(
     buf: &mut [u8],
     at: usize,
     layout: &Layout,
     view: &DrawnRange,
-    board: &mut TraceState,
+    drawing: &mut Drawing,
     place: u64,
     e: &Event,
 ) -> usize
     requires lawful { IsLawful layout.now }
     requires noted { IsNoted e.now }
     requires few { place < 2 ^ 41 }
+    requires room { at + 99300 ≤ length buf.old }
+    ensures text { take result buf.new ≡ take at buf.old ++
+        event_shapes view.now.ordered (band_of layout.now view.now place) (tracked_of drawing.old.board) place e.now }
+    ensures kept { tracked_of drawing.new.board ≡ tracked_of drawing.old.board }
+    ensures shown { entry_of drawing.new.shown ≡ shown_by (origin_of place e.now) (marks e.now)
+        (has_text (arrows_at (band_of layout.now view.now place) (tracked_of drawing.old.board) (origin_of place e.now) (marks e.now)))
+        (opened layout.now view.now (tracked_of drawing.old.board) (origin_of place e.now) (entry_of drawing.old.shown)) }
+    ensures near { result ≤ at + 99300 }
+{
+    let band = band_of(layout, view, place);
+    let shown = marks_of(e.thread, &e.action);
+    let by = Origin {
+        thread: e.thread,
+        object: shown.object,
+        place,
+    };
+    let marked = add_event_marks(
+        buf,
+        at,
+        &band,
+        &drawing.board,
+        place,
+        e,
+        &shown,
+        view.ordered,
+    );
+    let end = add_arrows(buf, marked, &band, &drawing.board, &by, &shown);
+    note_opening(&mut drawing.shown, layout, view, &drawing.board, by);
+    note_event(&mut drawing.shown, &shown, marked < end, by);
+    end
+}
+
+// Adds what the event shows, and the end of its band, where it is drawn.
+fn add_drawn(
+    buf: &mut [u8],
+    at: usize,
+    layout: &Layout,
+    view: &DrawnRange,
+    drawing: &mut Drawing,
+    place: u64,
+    e: &Event,
+) -> usize
+    requires lawful { IsLawful layout.now }
+    requires noted { IsNoted e.now }
+    requires few { place < 2 ^ 41 }
+    requires seen { in_view view.now place ≡ true }
     requires room { at + 440000 ≤ length buf.old }
     ensures text { take result buf.new ≡ take at buf.old ++
-        (opening layout.now view.now (tracked_of board.old) place
-        ++ event_shapes (band_of layout.now view.now place) (tracked_of board.old) place e.now
-        ++ closing_after layout.now view.now (tracked_of board.new) place) }
-    ensures kept { tracked_of board.new ≡ tracked_after place e.now (tracked_of board.old) }
+        (opening layout.now view.now (tracked_of drawing.old.board) place
+        ++ event_shapes view.now.ordered (band_of layout.now view.now place) (tracked_of drawing.old.board) place e.now
+        ++ closing_after layout.now view.now (tracked_of drawing.new.board) place) }
+    ensures kept { drawn_of drawing.new ≡ drawn_after layout.now view.now place e.now (drawn_of drawing.old) }
     ensures near { result ≤ at + 440000 }
 {
-    let at = add_opening(buf, at, layout, view, board, place);
-    let band = band_of(layout, view, place);
-    let at = add_event_shapes(buf, at, &band, board, place, e);
-    board.note(place, e);
-    add_closing_after(buf, at, layout, view, board, place)
+    let at = add_opening(buf, at, layout, view, &drawing.board, place);
+    let at = add_event_shapes(buf, at, layout, view, drawing, place, e);
+    drawing.board.note(place, e);
+    add_closing_after(buf, at, layout, view, &drawing.board, place)
 }
 
 /// Adds all that an event adds, and notes what it takes and gives back.
@@ -491,7 +521,7 @@ pub fn add_step(
     at: usize,
     layout: &Layout,
     view: &DrawnRange,
-    board: &mut TraceState,
+    drawing: &mut Drawing,
     place: u64,
     e: &Event,
 ) -> usize
@@ -499,14 +529,14 @@ pub fn add_step(
     requires named { HasNames layout.now e.now }
     requires few { place < 2 ^ 41 }
     requires room { at + 440000 ≤ length buf.old }
-    ensures text { take result buf.new ≡ take at buf.old ++ step_text layout.now view.now (tracked_of board.old) place e.now }
-    ensures kept { tracked_of board.new ≡ tracked_after place e.now (tracked_of board.old) }
+    ensures text { take result buf.new ≡ take at buf.old ++ step_text layout.now view.now (tracked_of drawing.old.board) place e.now }
+    ensures kept { drawn_of drawing.new ≡ drawn_after layout.now view.now place e.now (drawn_of drawing.old) }
     ensures near { result ≤ at + 440000 }
 {
     if is_in_view(view, place) {
-        add_drawn(buf, at, layout, view, board, place, e)
+        add_drawn(buf, at, layout, view, drawing, place, e)
     } else {
-        board.note(place, e);
+        drawing.board.note(place, e);
         at
     }
 }

@@ -12,7 +12,7 @@ ghost use Rattle.larch_actions.specs.declared.event.Version.{Version};
 ghost use Rattle.larch_actions.specs.Layout.{IsLawful};
 ghost use Rattle.larch_actions.specs.Actions.{at_first};
 ghost use Rattle.lock_order.specs.Kept.{IsKept};
-ghost use Rattle.trace_board.specs.Tracked.{tracked_of};
+ghost use Rattle.trace_picture.specs.Shown.{drawn_of};
 ghost use Rattle.trace_picture.specs.Verdicts.{cut_words};
 ghost use Rattle.trace_picture.specs.Picture.{ending};
 ghost use Rattle.trace_picture.specs.Drawn.{IsDrawn, IsCutOff};
@@ -21,10 +21,10 @@ use crate::bands::add_step;
 use crate::endings::{end_failed, end_with};
 use crate::head::add_head;
 use crate::rings::{end_legal, note_if};
+use crate::shown::Drawing;
 use firefly_outside::{Sink, SinkFault, Source, put_all};
 use larch_actions::{Layout, State, Totals};
 use lock_order::LockGraph;
-use trace_board::board::TraceState;
 use trace_check::{Summary, Verdict};
 use trace_core::{EventReader, TextFault};
 use trace_shapes::DrawnRange;
@@ -60,9 +60,9 @@ fn summary_of(events: u64, totals: &Totals) -> Summary
 // Sends what the buffer holds where that is more than 16 KiB, and says how much it holds then: there is room for another event.
 fn make_room<O: Sink>(buf: &[u8], at: usize, out: &mut O) -> Result<usize, SinkFault>
     requires within { at ≤ length buf.now }
-    requires large { 490000 ≤ length buf.now }
+    requires large { 500000 ≤ length buf.now }
     ensures ok { IfOk result (λ end. Flows (O.held out.old) (O.held out.new) (take at buf.now) (take end buf.now) []) }
-    ensures room { IfOk result (λ end. end + 470000 ≤ length buf.now) }
+    ensures room { IfOk result (λ end. end + 480000 ≤ length buf.now) }
     ensures err { OnErr result (AppendsPrefix (O.held out.old) (O.held out.new) (take at buf.now)) }
     ensures cause { HasCause (O.faults out.old) (O.faults out.new) result }
 {
@@ -81,7 +81,7 @@ fn end_cut<O: Sink>(
     at: usize,
     layout: &Layout,
     view: &DrawnRange,
-    board: &TraceState,
+    drawing: &Drawing,
     count: u64,
     out: &mut O,
 ) -> Result<(), SinkFault>
@@ -89,9 +89,9 @@ fn end_cut<O: Sink>(
     requires few { count < 2 ^ 42 }
     requires room { at + 440000 ≤ length buf.old }
     ensures ok { OnOk result (Appends (O.held out.old) (O.held out.new)
-        (take at buf.old ++ ending layout.now view.now (tracked_of board.now) count cut_words None)) }
+        (take at buf.old ++ ending layout.now view.now (drawn_of drawing.now) count cut_words None)) }
     ensures err { OnErr result (AppendsPrefix (O.held out.old) (O.held out.new)
-        (take at buf.old ++ ending layout.now view.now (tracked_of board.now) count cut_words None)) }
+        (take at buf.old ++ ending layout.now view.now (drawn_of drawing.now) count cut_words None)) }
     ensures cause { HasCause (O.faults out.old) (O.faults out.new) result }
 {
     end_with(
@@ -99,7 +99,7 @@ fn end_cut<O: Sink>(
         at,
         layout,
         view,
-        board,
+        drawing,
         count,
         b"<text class='hd' x='44' y='18'><tspan class='no'>the input can't be read further</tspan>, events: ",
         None,
@@ -130,7 +130,7 @@ pub fn draw_trace<I: Source, O: Sink>(
     ensures reported { IfOk result (λ v. v ≢ verdict.ReadFault → I.faults input.new ≡ I.faults input.old) }
     ensures later { I.faults input.old ≤ I.faults input.new }
 {
-    let mut buf = [0; 491520];
+    let mut buf = [0; 501760];
     draw_by(&mut buf, input, budget, view, out)
 }
 
@@ -142,7 +142,7 @@ fn draw_by<I: Source, O: Sink>(
     view: &DrawnRange,
     out: &mut O,
 ) -> Result<Verdict, SinkFault>
-    requires large { 490000 ≤ length buf.old }
+    requires large { 500000 ≤ length buf.old }
     requires budget { budget ≤ 2 ^ 40 }
     ensures just { IfOk result (λ v. IsJust budget (I.left input.old) (I.left input.new) (I.faults input.old) (I.faults input.new) v) }
     ensures exact { IfOk result (λ v. (bytes : List ℕ) (other : Verdict) → I.left input.old ≡ Some bytes → v ≢ verdict.ReadFault
@@ -169,7 +169,7 @@ fn draw_all<I: Source, O: Sink>(
 ) -> Result<Verdict, SinkFault>
     requires phase { (standing I.left reader.old).phase ≡ phase.Head }
     requires lines { (standing I.left reader.old).lines ≡ 0 }
-    requires large { 490000 ≤ length buf.old }
+    requires large { 500000 ≤ length buf.old }
     requires fits { (standing I.left reader.old).room ≤ 2 ^ 40 }
     requires empty { (version : Version) → IsKept [] (at_first version) graph.old }
     ensures just { IfOk result (λ v. IsJust (standing I.left reader.old).room (standing I.left reader.old).rest (I.left
@@ -190,7 +190,7 @@ fn draw_all<I: Source, O: Sink>(
     };
     let mut at = add_head(buf, 0, &layout);
     let mut state = State::new(layout);
-    let mut board = TraceState::new();
+    let mut drawing = Drawing::new();
     let mut place = 0;
     loop {
         let free = match make_room(buf, at, out) {
@@ -201,12 +201,20 @@ fn draw_all<I: Source, O: Sink>(
             Ok(Some(event)) => match state.apply(&event) {
                 Ok(()) => {
                     note_if(graph, view.ordered, &event, place);
-                    at = add_step(buf, free, &layout, view, &mut board, place, &event);
+                    at = add_step(buf, free, &layout, view, &mut drawing, place, &event);
                     place += 1;
                 }
                 Err(why) => {
                     return match end_failed(
-                        buf, free, &layout, view, &board, place, &event, why, out,
+                        buf,
+                        free,
+                        &layout,
+                        view,
+                        &mut drawing,
+                        place,
+                        &event,
+                        why,
+                        out,
                     ) {
                         Ok(()) => Ok(Verdict::Illegal { place, why }),
                         Err(fault) => Err(fault),
@@ -216,13 +224,15 @@ fn draw_all<I: Source, O: Sink>(
             Ok(None) => {
                 let totals = state.summary();
                 let left = summary_of(place, &totals);
-                return match end_legal(buf, free, &layout, view, &board, graph, place, left, out) {
+                return match end_legal(
+                    buf, free, &layout, view, &drawing, graph, place, left, out,
+                ) {
                     Ok(()) => Ok(Verdict::Legal(left)),
                     Err(fault) => Err(fault),
                 };
             }
             Err(broken) => {
-                return match end_cut(buf, free, &layout, view, &board, place, out) {
+                return match end_cut(buf, free, &layout, view, &drawing, place, out) {
                     Ok(()) => Ok(verdict_of(broken)),
                     Err(fault) => Err(fault),
                 };

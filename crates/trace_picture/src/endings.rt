@@ -3,27 +3,34 @@ ghost use Rattle.std.specs.Prelude.{◌≡◌, ◌+◌, ◌<◌, ◌≤◌, ◌^
 ghost use Rattle.std.specs.Io.KnownBytes.{Appends};
 ghost use Rattle.firefly_outside.specs.Causes.{HasCause, AppendsPrefix};
 ghost use Rattle.larch_actions.specs.Layout.{IsLawful, HasNames};
+ghost use Rattle.trace_board.specs.History.{entry_of};
 ghost use Rattle.trace_board.specs.Tracked.{tracked_of, IsNoted};
 ghost use Rattle.trace_shapes.specs.Places.{is_open, band_of, height_of};
 ghost use Rattle.trace_shapes.specs.Shapes.{with_number};
+ghost use Rattle.trace_shapes.specs.Legend.{legend_text};
 ghost use Rattle.trace_picture.specs.Bands.{closing};
 ghost use Rattle.trace_picture.specs.Longest.{holds_text, holds_height};
 ghost use Rattle.trace_picture.specs.Overview.{over_height, over_style};
 ghost use Rattle.trace_picture.specs.Verdicts.{counted_line, refusal};
-ghost use Rattle.trace_picture.specs.Picture.{last_tags, end_text, closing_if, ending, failed_ending};
+ghost use Rattle.trace_picture.specs.Shown.{drawn_of, drawn_failed};
+ghost use Rattle.trace_picture.specs.Picture.{moved_down, last_tags, end_text, closing_if, ending, failed_ending};
 ghost use Rattle.trace_picture.specs.Rings.{ringed_line};
 
 use crate::bands::{add_closing, add_failing, top_of};
 use crate::cycles::add_ringed_line;
 use crate::longest::{add_holds, height_of_holds};
 use crate::overview::{add_over_style, height_of_overview};
+use crate::shown::{Drawing, note_failing};
 use crate::verdicts::{ONE_LINE, THREE_LINES, TWO_LINES, add_counted_line, add_refusal};
 use firefly_outside::{Sink, SinkFault, put_all};
 use larch_actions::{Broken, Event, Layout};
 use lock_order::Cycle;
 use trace_board::board::TraceState;
+use trace_board::history::{Origin, Table};
+use trace_board::marks::marks_of;
 use trace_check::Summary;
 use trace_core::add;
+use trace_shapes::legend::{add_legend, height_of_legend};
 use trace_shapes::tags::add_with_number;
 use trace_shapes::view::{DrawnRange, band_of, count_bands, is_band_open};
 
@@ -61,51 +68,71 @@ pub fn add_last_closing(
     }
 }
 
-// Adds the height, by how much the words at the top move the rest down, what shows the overview, and the last tag.
+// By how much the legend and the overview move the bands down.
+fn height_above(layout: &Layout, view: &DrawnRange, shown: &Table, count: u64) -> u64
+    requires lawful { IsLawful layout.now }
+    requires few { count < 2 ^ 42 }
+    ensures height { result ≡ moved_down layout.now view.now (entry_of shown.now) count }
+    ensures small { result < 2 ^ 61 }
+{
+    height_of_legend(shown) + height_of_overview(layout, view, count)
+}
+
+// Adds the height, by how much the words at the top move the rest down and what stands above the bands moves them, what shows the overview, and the last tag.
 fn add_last_tags(
     buf: &mut [u8],
     at: usize,
     layout: &Layout,
     view: &DrawnRange,
+    shown: &Table,
     count: u64,
     high: u64,
 ) -> usize
     requires lawful { IsLawful layout.now }
     requires few { count < 2 ^ 42 }
     requires low { high < 2 ^ 60 }
-    requires room { at + 260 ≤ length buf.old }
-    ensures text { take result buf.new ≡ take at buf.old ++ last_tags layout.now view.now count high }
-    ensures near { result ≤ at + 260 }
+    requires room { at + 310 ≤ length buf.old }
+    ensures text { take result buf.new ≡ take at buf.old ++ last_tags layout.now view.now (entry_of shown.now) count high }
+    ensures near { result ≤ at + 310 }
 {
-    let whole = height(layout, view, count)
-        + 14
-        + height_of_holds(layout)
-        + height_of_overview(layout, view, count)
-        + high;
+    let moved = height_above(layout, view, shown, count);
+    let whole = height(layout, view, count) + 14 + height_of_holds(layout) + moved + high;
     let at = add_with_number(buf, at, b"<style>:root{height:", whole);
     let at = add_with_number(buf, at, b"px}.s{transform:translate(0,", high);
+    let at = add_with_number(buf, at, b"px)}.w{transform:translate(0,", moved);
     add_over_style(buf, at, layout, view, count)
 }
 
-// Adds the lines of the mutexes, and what ends all that the words at the top move down.
+// Adds the legend, between the ends of what it moves down and of what the words at the top move down.
+fn add_legend_after(buf: &mut [u8], at: usize, shown: &Table) -> usize
+    requires { at + 9200 ≤ length buf.old }
+    ensures text { take result buf.new ≡ take at buf.old ++ (codes "</g>\n" ++ legend_text (entry_of shown.now) ++ codes "</g>\n") }
+    ensures near { result ≤ at + 9200 }
+{
+    let at = add(buf, at, b"</g>\n");
+    let at = add_legend(buf, at, shown);
+    add(buf, at, b"</g>\n")
+}
+
+// Adds the lines of the mutexes, and the legend.
 fn add_lines(
     buf: &mut [u8],
     at: usize,
     layout: &Layout,
     view: &DrawnRange,
-    board: &TraceState,
+    drawing: &Drawing,
     count: u64,
 ) -> usize
     requires lawful { IsLawful layout.now }
     requires few { count < 2 ^ 42 }
-    requires room { at + 36000 ≤ length buf.old }
-    ensures text { take result buf.new ≡ take at buf.old ++ (holds_text layout.now.mutexes (tracked_of board.now) count
-        (height_of layout.now view.now count) ++ codes "</g></g>\n") }
-    ensures near { result ≤ at + 36000 }
+    requires room { at + 45100 ≤ length buf.old }
+    ensures text { take result buf.new ≡ take at buf.old ++ (holds_text layout.now.mutexes (tracked_of drawing.now.board) count
+        (height_of layout.now view.now count) ++ (codes "</g>\n" ++ legend_text (entry_of drawing.now.shown) ++ codes "</g>\n")) }
+    ensures near { result ≤ at + 45100 }
 {
     let low = height(layout, view, count);
-    let at = add_holds(buf, at, layout.mutexes, board, count, low);
-    add(buf, at, b"</g></g>\n")
+    let at = add_holds(buf, at, layout.mutexes, &drawing.board, count, low);
+    add_legend_after(buf, at, &drawing.shown)
 }
 
 // Adds the lines of the mutexes, words and a count for the top of the picture, and what follows them.
@@ -115,7 +142,7 @@ fn add_end(
     at: usize,
     layout: &Layout,
     view: &DrawnRange,
-    board: &TraceState,
+    drawing: &Drawing,
     count: u64,
     words: &[u8],
     left: Option<Summary>,
@@ -123,14 +150,14 @@ fn add_end(
     requires lawful { IsLawful layout.now }
     requires few { count < 2 ^ 42 }
     requires short { length words.now ≤ 120 }
-    requires room { at + 37000 ≤ length buf.old }
-    ensures text { take result buf.new ≡ take at buf.old ++ end_text layout.now view.now (tracked_of board.now) count ONE_LINE
+    requires room { at + 46000 ≤ length buf.old }
+    ensures text { take result buf.new ≡ take at buf.old ++ end_text layout.now view.now (drawn_of drawing.now) count ONE_LINE
         (counted_line view.now count words.now left) }
-    ensures near { result ≤ at + 37000 }
+    ensures near { result ≤ at + 46000 }
 {
-    let at = add_lines(buf, at, layout, view, board, count);
+    let at = add_lines(buf, at, layout, view, drawing, count);
     let at = add_counted_line(buf, at, view, count, words, left);
-    add_last_tags(buf, at, layout, view, count, ONE_LINE)
+    add_last_tags(buf, at, layout, view, &drawing.shown, count, ONE_LINE)
 }
 
 /// The same with a cycle in words.
@@ -140,21 +167,21 @@ pub fn add_ringed_end(
     at: usize,
     layout: &Layout,
     view: &DrawnRange,
-    board: &TraceState,
+    drawing: &Drawing,
     count: u64,
     left: Summary,
     cycle: &Cycle,
 ) -> usize
     requires lawful { IsLawful layout.now }
     requires few { count < 2 ^ 42 }
-    requires room { at + 53000 ≤ length buf.old }
-    ensures text { take result buf.new ≡ take at buf.old ++ end_text layout.now view.now (tracked_of board.now) count TWO_LINES
+    requires room { at + 62000 ≤ length buf.old }
+    ensures text { take result buf.new ≡ take at buf.old ++ end_text layout.now view.now (drawn_of drawing.now) count TWO_LINES
         (ringed_line view.now count left cycle.now) }
-    ensures near { result ≤ at + 53000 }
+    ensures near { result ≤ at + 62000 }
 {
-    let at = add_lines(buf, at, layout, view, board, count);
+    let at = add_lines(buf, at, layout, view, drawing, count);
     let at = add_ringed_line(buf, at, view, count, left, cycle);
-    add_last_tags(buf, at, layout, view, count, TWO_LINES)
+    add_last_tags(buf, at, layout, view, &drawing.shown, count, TWO_LINES)
 }
 
 /// Adds the end of a picture of so many events, with these words at its top.
@@ -163,7 +190,7 @@ pub fn add_ending(
     at: usize,
     layout: &Layout,
     view: &DrawnRange,
-    board: &TraceState,
+    drawing: &Drawing,
     count: u64,
     words: &[u8],
     left: Option<Summary>,
@@ -171,12 +198,12 @@ pub fn add_ending(
     requires lawful { IsLawful layout.now }
     requires few { count < 2 ^ 42 }
     requires short { length words.now ≤ 120 }
-    requires room { at + 370000 ≤ length buf.old }
-    ensures text { take result buf.new ≡ take at buf.old ++ ending layout.now view.now (tracked_of board.now) count words.now left }
-    ensures near { result ≤ at + 370000 }
+    requires room { at + 379000 ≤ length buf.old }
+    ensures text { take result buf.new ≡ take at buf.old ++ ending layout.now view.now (drawn_of drawing.now) count words.now left }
+    ensures near { result ≤ at + 379000 }
 {
-    let at = add_last_closing(buf, at, layout, view, board, count);
-    add_end(buf, at, layout, view, board, count, words, left)
+    let at = add_last_closing(buf, at, layout, view, &drawing.board, count);
+    add_end(buf, at, layout, view, drawing, count, words, left)
 }
 
 // Adds the lines of the mutexes, what an event fails for the top of the picture, and what follows it.
@@ -186,7 +213,7 @@ fn add_failed_end(
     at: usize,
     layout: &Layout,
     view: &DrawnRange,
-    board: &TraceState,
+    drawing: &Drawing,
     place: u64,
     e: &Event,
     why: Broken,
@@ -194,14 +221,22 @@ fn add_failed_end(
     requires lawful { IsLawful layout.now }
     requires noted { IsNoted e.now }
     requires few { place < 2 ^ 41 }
-    requires room { at + 68000 ≤ length buf.old }
-    ensures text { take result buf.new ≡ take at buf.old ++ end_text layout.now view.now (tracked_of board.now) (place + 1) THREE_LINES
-        (refusal layout.now.version view.now (tracked_of board.now) place e.now why) }
-    ensures near { result ≤ at + 68000 }
+    requires room { at + 77000 ≤ length buf.old }
+    ensures text { take result buf.new ≡ take at buf.old ++ end_text layout.now view.now (drawn_of drawing.now) (place + 1) THREE_LINES
+        (refusal layout.now.version view.now (tracked_of drawing.now.board) place e.now why) }
+    ensures near { result ≤ at + 77000 }
 {
-    let at = add_lines(buf, at, layout, view, board, place + 1);
-    let at = add_refusal(buf, at, layout.version, view, board, place, e, why);
-    add_last_tags(buf, at, layout, view, place + 1, THREE_LINES)
+    let at = add_lines(buf, at, layout, view, drawing, place + 1);
+    let at = add_refusal(buf, at, layout.version, view, &drawing.board, place, e, why);
+    add_last_tags(
+        buf,
+        at,
+        layout,
+        view,
+        &drawing.shown,
+        place + 1,
+        THREE_LINES,
+    )
 }
 
 /// Adds the event that fails, and the end of the picture.
@@ -211,7 +246,7 @@ pub fn add_failed_ending(
     at: usize,
     layout: &Layout,
     view: &DrawnRange,
-    board: &TraceState,
+    drawing: &mut Drawing,
     place: u64,
     e: &Event,
     why: Broken,
@@ -219,12 +254,18 @@ pub fn add_failed_ending(
     requires lawful { IsLawful layout.now }
     requires named { HasNames layout.now e.now }
     requires few { place < 2 ^ 41 }
-    requires room { at + 470000 ≤ length buf.old }
-    ensures text { take result buf.new ≡ take at buf.old ++ failed_ending layout.now view.now (tracked_of board.now) place e.now why }
-    ensures near { result ≤ at + 470000 }
+    requires room { at + 479000 ≤ length buf.old }
+    ensures text { take result buf.new ≡ take at buf.old ++ failed_ending layout.now view.now (drawn_of drawing.old) place e.now why }
+    ensures near { result ≤ at + 479000 }
 {
-    let at = add_failing(buf, at, layout, view, board, place, e, why);
-    add_failed_end(buf, at, layout, view, board, place, e, why)
+    let at = add_failing(buf, at, layout, view, &drawing.board, place, e, why);
+    let by = Origin {
+        thread: e.thread,
+        object: marks_of(e.thread, &e.action).object,
+        place,
+    };
+    note_failing(&mut drawing.shown, layout, view, &drawing.board, by);
+    add_failed_end(buf, at, layout, view, drawing, place, e, why)
 }
 
 /// Sends what the buffer holds and the end of a picture of so many events, with these words at its top.
@@ -233,7 +274,7 @@ pub fn end_with<O: Sink>(
     at: usize,
     layout: &Layout,
     view: &DrawnRange,
-    board: &TraceState,
+    drawing: &Drawing,
     count: u64,
     words: &[u8],
     left: Option<Summary>,
@@ -242,14 +283,14 @@ pub fn end_with<O: Sink>(
     requires lawful { IsLawful layout.now }
     requires few { count < 2 ^ 42 }
     requires short { length words.now ≤ 120 }
-    requires room { at + 370000 ≤ length buf.old }
+    requires room { at + 379000 ≤ length buf.old }
     ensures ok { OnOk result (Appends (O.held out.old) (O.held out.new)
-        (take at buf.old ++ ending layout.now view.now (tracked_of board.now) count words.now left)) }
+        (take at buf.old ++ ending layout.now view.now (drawn_of drawing.now) count words.now left)) }
     ensures err { OnErr result (AppendsPrefix (O.held out.old) (O.held out.new)
-        (take at buf.old ++ ending layout.now view.now (tracked_of board.now) count words.now left)) }
+        (take at buf.old ++ ending layout.now view.now (drawn_of drawing.now) count words.now left)) }
     ensures cause { HasCause (O.faults out.old) (O.faults out.new) result }
 {
-    let end = add_ending(buf, at, layout, view, board, count, words, left);
+    let end = add_ending(buf, at, layout, view, drawing, count, words, left);
     put_all(out, &buf[..end])
 }
 
@@ -259,7 +300,7 @@ pub fn end_failed<O: Sink>(
     at: usize,
     layout: &Layout,
     view: &DrawnRange,
-    board: &TraceState,
+    drawing: &mut Drawing,
     place: u64,
     e: &Event,
     why: Broken,
@@ -268,13 +309,13 @@ pub fn end_failed<O: Sink>(
     requires lawful { IsLawful layout.now }
     requires named { HasNames layout.now e.now }
     requires few { place < 2 ^ 41 }
-    requires room { at + 470000 ≤ length buf.old }
+    requires room { at + 479000 ≤ length buf.old }
     ensures ok { OnOk result (Appends (O.held out.old) (O.held out.new)
-        (take at buf.old ++ failed_ending layout.now view.now (tracked_of board.now) place e.now why)) }
+        (take at buf.old ++ failed_ending layout.now view.now (drawn_of drawing.old) place e.now why)) }
     ensures err { OnErr result (AppendsPrefix (O.held out.old) (O.held out.new)
-        (take at buf.old ++ failed_ending layout.now view.now (tracked_of board.now) place e.now why)) }
+        (take at buf.old ++ failed_ending layout.now view.now (drawn_of drawing.old) place e.now why)) }
     ensures cause { HasCause (O.faults out.old) (O.faults out.new) result }
 {
-    let end = add_failed_ending(buf, at, layout, view, board, place, e, why);
+    let end = add_failed_ending(buf, at, layout, view, drawing, place, e, why);
     put_all(out, &buf[..end])
 }

@@ -1,13 +1,11 @@
-//! The head of a picture: the first tag, the colours, and what each mark and colour means.
+//! The head of a picture: the first tag, the colours, and where the bands begin.
 ghost use Rattle.std.specs.Prelude.{◌≡◌, ◌+◌, ◌*◌, ◌≤◌, ◌++◌, length, take, codes};
 ghost use Rattle.larch_actions.specs.Layout.{IsLawful};
 ghost use Rattle.trace_shapes.specs.Shapes.{each_below};
-ghost use Rattle.trace_shapes.specs.Legend.{entry_at, life_legend};
-ghost use Rattle.trace_picture.specs.Picture.{style_text, pattern_text, other_words, many_style, many_if, hover_text, over_words, head_text};
+ghost use Rattle.trace_picture.specs.Picture.{style_text, pattern_text, many_style, many_if, hover_text, over_words, head_text};
 
 use larch_actions::Layout;
 use trace_core::add;
-use trace_shapes::legend::{add_entries, add_life_legend};
 use trace_shapes::tags::add_with_number;
 
 // Adds the first tag and the colours.
@@ -25,7 +23,7 @@ fn add_style(buf: &mut [u8], at: usize) -> usize
     let at = add(
         buf,
         at,
-        b"text{fill:#1f2328}.r{fill:#f3f4f6}.p,.z{fill:#fff}.l{stroke:#d8dbe0}.n{fill:#6e7781;font-size:10px;text-anchor:middle}.y,.i{font-weight:bold}.i{text-anchor:middle}.s1,.x,.hx{font-size:10px}.s2{font-size:9px;text-anchor:end}.s3{font-size:8px;text-anchor:end}.hx{paint-order:stroke;stroke:#fff;stroke-width:3px}\n",
+        b"text{fill:#1f2328}.r{fill:#f3f4f6}.p,.z{fill:#fff}.l{stroke:#d8dbe0}.n{fill:#6e7781;font-size:10px;text-anchor:middle}.y,.i{font-weight:bold}.i{text-anchor:middle;stroke:none}.s1,.x,.hx{font-size:10px}.s2{font-size:9px;text-anchor:end}.s3{font-size:8px;text-anchor:end}.hx{paint-order:stroke;stroke:#fff;stroke-width:3px}\n",
     );
     let at = add(
         buf,
@@ -35,7 +33,7 @@ fn add_style(buf: &mut [u8], at: usize) -> usize
     add(
         buf,
         at,
-        b".h{fill:url(#h)}.d{fill:#fff3c4}.h,.d{stroke:#8c959f;stroke-width:.6}.o{fill:#fff}.k{fill:#d8dee4}.g{fill:#ffd866}.b{fill:#b6dcf5}.v{fill:#ffb8a3}.j{fill:#bfe3c3}.o,.k,.g,.b,.v,.j{stroke:#57606a;stroke-width:.8}\n",
+        b".h{fill:url(#h)}.d{fill:#fff3c4}.h,.d{stroke:#8c959f;stroke-width:.6}.o{fill:#fff}.k{fill:#d8dee4}.g{fill:#ffd866}.b{fill:#b6dcf5}.v{fill:#ffb8a3}.j{fill:#bfe3c3}use{stroke:#57606a;stroke-width:.8}\n",
     )
 }
 
@@ -49,7 +47,7 @@ fn add_pattern(buf: &mut [u8], at: usize) -> usize
     let at = add(
         buf,
         at,
-        b".u{display:none}.e{fill:#fff;stroke:#57606a;stroke-dasharray:3 2}.f{fill:#cf222e}.f+.i,.ft,.fe{fill:#fff}.ft,.fe{font-weight:bold;filter:url(#t)}.fe{text-anchor:end}.fl{stroke:#cf222e;stroke-width:2}.u0{fill:#57606a}.u1{fill:#c9ced5}.a{fill:none;stroke:#a02c6b;stroke-width:1.6;marker-end:url(#a)}.q{fill:none;stroke:#fff;stroke-width:4}.c{fill:none;stroke:#cf222e;stroke-width:3}.hd{font-size:13px}.ok,.no,.at{font-weight:bold}.ok{fill:#1a7f37}.no{fill:#cf222e}.at{fill:#9a6700}\n@media (prefers-color-scheme:dark){text{fill:#e6edf3}.p,.z{fill:#0d1117}.r{fill:#1c2128}.n{fill:#9198a1}.l{stroke:#30363d}.q{stroke:#0d1117}.a{stroke:#ff8fc7}.ar{fill:#ff8fc7}.i,.s1,.s2,.s3,.x{fill:#1f2328}.m1+.x,.f+.i,.ft,.fe{fill:#fff}.hx{fill:#e6edf3;stroke:#0d1117}.hb{fill:#22272e}.d{fill:#5c4f17}.u0{fill:#adb5bd}.u1{fill:#3d444d}.ok{fill:#3fb950}.no{fill:#ff7b72}.at{fill:#e3b341}}\n</style>\n",
+        b".u{display:none}.e{fill:#fff;stroke:#57606a;stroke-dasharray:3 2}.f{fill:#cf222e;stroke:#cf222e}.f+.i,.ft,.fe{fill:#fff}.ft,.fe{font-weight:bold;filter:url(#t)}.fe{text-anchor:end}.fl{stroke:#cf222e;stroke-width:2}.u0{fill:#57606a}.u1{fill:#c9ced5}.a{fill:none;stroke:#a02c6b;stroke-width:1.6;marker-end:url(#a)}.q{fill:none;stroke:#fff;stroke-width:4}.hd{font-size:13px}.ok,.no,.at{font-weight:bold}.ok{fill:#1a7f37}.no{fill:#cf222e}.at{fill:#9a6700}\n@media (prefers-color-scheme:dark){text{fill:#e6edf3}.p,.z{fill:#0d1117}.r{fill:#1c2128}.n{fill:#9198a1}.l{stroke:#30363d}.q{stroke:#0d1117}.a{stroke:#ff8fc7}.ar{fill:#ff8fc7}.i,.s1,.s2,.s3,.x{fill:#1f2328}.m1+.x,.f+.i,.ft,.fe{fill:#fff}.hx{fill:#e6edf3;stroke:#0d1117}.hb{fill:#22272e}.d{fill:#5c4f17}.u0{fill:#adb5bd}.u1{fill:#3d444d}.ok{fill:#3fb950}.no{fill:#ff7b72}.at{fill:#e3b341}}\n</style>\n",
     );
     let at = add(
         buf,
@@ -65,25 +63,6 @@ fn add_pattern(buf: &mut [u8], at: usize) -> usize
         buf,
         at,
         b"<rect class='p' width='100%' height='100%'/>\n<g class='s'>\n",
-    )
-}
-
-// Adds what is no mark: the arrows, the bars and a wait.
-#[tactic(auto, unfolding(crate::specs::Picture::other_words))]
-fn add_other_words(buf: &mut [u8], at: usize) -> usize
-    requires { at + 1000 ≤ length buf.old }
-    ensures text { take result buf.new ≡ take at buf.old ++ other_words }
-    ensures near { result ≤ at + 1000 }
-{
-    let at = add(
-        buf,
-        at,
-        b"<path class='a' d='M844 50H876'/><text x='883' y='54'>lets another thread go on</text><rect class='e' x='1044' y='44' width='34' height='12' rx='2'/><text class='x' x='1048' y='54'>s0</text><text x='1083' y='54'>semaphore s0 is taken</text>\n",
-    );
-    add(
-        buf,
-        at,
-        b"<rect class='m0' x='44' y='62' width='34' height='12' rx='2'/><text class='x' x='48' y='72'>m0</text><text x='83' y='72'>holds mutex m0</text><rect class='h' x='244' y='63' width='34' height='9'/><text class='hx' x='248' y='71'>c0</text><text x='283' y='72'>waits in condition c0</text><rect class='d' x='444' y='63' width='34' height='9'/><text x='483' y='72'>let go on, not yet resumed</text><text x='644' y='72'>beside a letter: the number of its condition, semaphore or thread</text>\n",
     )
 }
 
@@ -108,16 +87,6 @@ fn add_many_if(buf: &mut [u8], at: usize, mutexes: u32) -> usize
     ensures near { result ≤ at + 2600 }
 {
     if 7 < mutexes { add_many(buf, at) } else { at }
-}
-
-// Adds the legend.
-fn add_legend(buf: &mut [u8], at: usize) -> usize
-    requires { at + 7100 ≤ length buf.old }
-    ensures text { take result buf.new ≡ take at buf.old ++ (each_below entry_at 16 ++ other_words) }
-    ensures near { result ≤ at + 7100 }
-{
-    let at = add_entries(buf, at);
-    add_other_words(buf, at)
 }
 
 // Adds that over a bar of the mutex the bars of the others fade.
@@ -175,14 +144,12 @@ fn add_over_words(buf: &mut [u8], at: usize) -> usize
 #[tactic(auto, unfolding(crate::specs::Picture::head_text))]
 pub fn add_head(buf: &mut [u8], at: usize, layout: &Layout) -> usize
     requires lawful { IsLawful layout.now }
-    requires room { at + 30000 ≤ length buf.old }
+    requires room { at + 20000 ≤ length buf.old }
     ensures text { take result buf.new ≡ take at buf.old ++ head_text layout.now }
-    ensures near { result ≤ at + 30000 }
+    ensures near { result ≤ at + 20000 }
 {
     let at = add_style(buf, at);
     let at = add_pattern(buf, at);
-    let at = add_legend(buf, at);
     let at = add_looks(buf, at, layout);
-    let at = add_over_words(buf, at);
-    add_life_legend(buf, at, layout.version)
+    add_over_words(buf, at)
 }

@@ -1,14 +1,29 @@
 //! Laws of the picture. What a bar, an arrow and a longest hold say stands in the laws of trace_board.
-ghost use Rattle.trace_picture.specs.Seen.{MarksDiffer, EventsAreMarked, BarsAreDrawn, TakingsAreDrawn, RowsStand, RowsBegin, RowsEnd, JoinsAreDrawn, ForksAreDrawn, BirthsAreDrawn, SignalsAreDrawn, WaitsAreDrawn, HoldsAreReported};
+ghost use Rattle.trace_picture.specs.Seen.{MarksDiffer, MarksAreExplained, DrawnAreExplained, EventsAreMarked, RingsAreNamed, BarsAreDrawn, TakingsAreDrawn, RowsStand, RowsBegin, RowsEnd, JoinsAreDrawn, ForksAreDrawn, BirthsAreDrawn, SignalsAreDrawn, WaitsAreDrawn, HoldsAreReported};
 
 /// Actions of different kinds have marks of different names, in which different letters are seen.
 pub fn marks_differ()
     ensures { MarksDiffer }
 {}
 
+/// The mark of each event in view has its entry in the legend.
+pub fn marks_are_explained()
+    ensures { MarksAreExplained }
+{}
+
+/// A mark that the legend explains is that of an event in view.
+pub fn drawn_are_explained()
+    ensures { DrawnAreExplained }
+{}
+
 /// Each event in view has its mark, by the letter of its action, in its column and in the row of its thread.
 pub fn events_are_marked()
     ensures { EventsAreMarked }
+{}
+
+/// Where the lock order is wanted, the marks that a ring may have are called by the places of their events.
+pub fn rings_are_named()
+    ensures { RingsAreNamed }
 {}
 
 /// An event that gives a mutex back ends a bar in its thread's row, from the column of the event that took the mutex to its own.

@@ -18,6 +18,7 @@ mod lives;
 mod longest;
 mod overview;
 mod rings;
+mod shown;
 mod verdicts;
 
 pub use draw::draw_trace;

@@ -196,7 +196,7 @@ pub fn height_of_overview(layout: &Layout, view: &DrawnRange, count: u64) -> u64
     }
 }
 
-/// Adds what shows the overview and moves the rest down, and the last tag.
+/// Adds what shows the overview, and the last tag.
 pub fn add_over_style(
     buf: &mut [u8],
     at: usize,
@@ -211,13 +211,11 @@ pub fn add_over_style(
     ensures near { result ≤ at + 160 }
 {
     if 10 < count_bands(view, count) {
-        let height = height_of_overview(layout, view, count);
-        let at = add_with_number(buf, at, b"px)}.w{transform:translate(0,", height);
         let at = add_with_number(
             buf,
             at,
-            b"px)}.u{display:inline;transform:translate(0,112px) translate(0,-",
-            height,
+            b"px)}.u{display:inline;transform:translate(0,8px) translate(0,-",
+            height_of_overview(layout, view, count),
         );
         add(buf, at, b"px)}</style>\n</svg>\n")
     } else {

@@ -1,6 +1,5 @@
 //! Rings around the events of a cycle of the lock order, and how the picture of a legal trace ends.
 ghost use Rattle.std.specs.Prelude.{◌≡◌, ◌+◌, ◌*◌, ◌<◌, ◌≤◌, ◌^◌, ◌++◌, ◌∷◌, [], length, take, codes, ℕ, List, true, OnOk, OnErr};
-ghost use Rattle.std.specs.List.{AllByRecursion};
 ghost use Rattle.std.specs.Io.KnownBytes.{Appends};
 ghost use Rattle.firefly_outside.specs.Causes.{HasCause, AppendsPrefix};
 ghost use Rattle.larch_actions.specs.declared.event.Event.{Event};
@@ -8,21 +7,18 @@ ghost use Rattle.larch_actions.specs.Layout.{IsLawful};
 ghost use Rattle.larch_actions.specs.Actions.{Spec, Acts};
 ghost use Rattle.lock_order.specs.declared.answer.Edge.{Edge};
 ghost use Rattle.lock_order.specs.Kept.{HasPlace, IsKept};
-ghost use Rattle.trace_board.specs.Tracked.{tracked_of};
-ghost use Rattle.trace_shapes.specs.Places.{band_of};
-ghost use Rattle.trace_picture.specs.Rings.{ring_y, ring_text, ring_if, rings_text, ringed_ending, ShowsOrdered, IsEnding, AreNoted, Sends};
+ghost use Rattle.trace_picture.specs.Shown.{drawn_of};
+ghost use Rattle.trace_picture.specs.Rings.{ring_text, rings_text, ringed_ending, ShowsOrdered, IsEnding, AreNoted, Sends};
 
-use crate::bands::{number_of, top_of};
 use crate::endings::{add_last_closing, add_ringed_end, end_with};
+use crate::shown::Drawing;
 use firefly_outside::{Sink, SinkFault, put_all};
 use larch_actions::{Event, Layout};
 use lock_order::{Cycle, Edge, LockGraph, cycle_in};
-use trace_board::board::TraceState;
 use trace_check::Summary;
 use trace_core::add;
-use trace_shapes::shapes::{event_x, mark_y};
 use trace_shapes::tags::add_with_number;
-use trace_shapes::view::{Band, DrawnRange, band_of, is_in_view};
+use trace_shapes::view::DrawnRange;
 
 /// Notes what the event nests, where the lock order is wanted.
 #[inline(always)]
@@ -36,63 +32,27 @@ pub fn note_if(graph: &mut LockGraph, ordered: bool, e: &Event, place: u64)
     }
 }
 
-// The upper edge of the mark that is ringed, in its band.
-fn top_of_ring(layout: &Layout, view: &DrawnRange, band: &Band, edge: &Edge) -> u64
-    requires lawful { IsLawful layout.now }
-    requires few { edge.now.place < 2 ^ 42 }
-    requires band { band.now ≡ band_of layout.now view.now edge.now.place }
-    ensures { result ≡ ring_y layout.now view.now edge.now }
-{
-    top_of(layout, number_of(view, band)) + mark_y(band, edge.thread.0)
-}
-
-// Adds a ring.
+// Adds a ring: the edge of the mark that is called so.
 #[tactic(auto, unfolding(crate::specs::Rings::ring_text))]
-fn add_ring(buf: &mut [u8], at: usize, layout: &Layout, view: &DrawnRange, edge: &Edge) -> usize
-    requires lawful { IsLawful layout.now }
-    requires few { edge.now.place < 2 ^ 42 }
-    requires room { at + 220 ≤ length buf.old }
-    ensures text { take result buf.new ≡ take at buf.old ++ ring_text layout.now view.now edge.now }
-    ensures near { result ≤ at + 220 }
+fn add_ring(buf: &mut [u8], at: usize, edge: &Edge) -> usize
+    requires { at + 80 ≤ length buf.old }
+    ensures text { take result buf.new ≡ take at buf.old ++ ring_text edge.now }
+    ensures near { result ≤ at + 80 }
 {
-    let band = band_of(layout, view, edge.place);
-    let x = event_x(&band, edge.place);
-    let y = top_of_ring(layout, view, &band, edge);
-    let at = add_with_number(buf, at, b"<rect class='c' id='e", edge.place);
-    let at = add_with_number(buf, at, b"' width='22' height='15' rx='3' x='", x);
-    let at = add_with_number(buf, at, b"' y='", y);
-    let at = add_with_number(buf, at, b"'><title>m", u64::from(edge.outer.0));
-    let at = add_with_number(buf, at, b" then m", u64::from(edge.inner.0));
-    add(buf, at, b"</title></rect>\n")
-}
-
-// Adds the ring, where its event is drawn.
-fn add_ring_if(buf: &mut [u8], at: usize, layout: &Layout, view: &DrawnRange, edge: &Edge) -> usize
-    requires lawful { IsLawful layout.now }
-    requires few { edge.now.place < 2 ^ 42 }
-    requires room { at + 220 ≤ length buf.old }
-    ensures text { take result buf.new ≡ take at buf.old ++ ring_if layout.now view.now edge.now }
-    ensures near { result ≤ at + 220 }
-{
-    if is_in_view(view, edge.place) {
-        add_ring(buf, at, layout, view, edge)
-    } else {
-        at
-    }
+    let at = add_with_number(buf, at, b"<style>#e", edge.place);
+    add(buf, at, b"{stroke:#cf222e;stroke-width:3}</style>\n")
 }
 
 // Adds the rings of a cycle.
-fn add_rings(buf: &mut [u8], at: usize, layout: &Layout, view: &DrawnRange, cycle: &Cycle) -> usize
-    requires lawful { IsLawful layout.now }
-    requires few { AllByRecursion (λ (n : Edge). n.place < 2 ^ 42) cycle.now }
-    requires room { at + 220 * 64 ≤ length buf.old }
-    ensures text { take result buf.new ≡ take at buf.old ++ rings_text layout.now view.now cycle.now }
-    ensures near { result ≤ at + 220 * 64 }
+fn add_rings(buf: &mut [u8], at: usize, cycle: &Cycle) -> usize
+    requires { at + 80 * 64 ≤ length buf.old }
+    ensures text { take result buf.new ≡ take at buf.old ++ rings_text cycle.now }
+    ensures near { result ≤ at + 80 * 64 }
 {
     let mut last = at;
     for k in 0..cycle.len() {
         let edge = cycle.at(k);
-        last = add_ring_if(buf, last, layout, view, &edge);
+        last = add_ring(buf, last, &edge);
     }
     last
 }
@@ -103,21 +63,20 @@ fn add_ringed_ending(
     at: usize,
     layout: &Layout,
     view: &DrawnRange,
-    board: &TraceState,
+    drawing: &Drawing,
     cycle: &Cycle,
     count: u64,
     left: Summary,
 ) -> usize
     requires lawful { IsLawful layout.now }
     requires few { count < 2 ^ 42 }
-    requires places { AllByRecursion (λ (n : Edge). n.place < 2 ^ 42) cycle.now }
     requires room { at + 440000 ≤ length buf.old }
-    ensures text { take result buf.new ≡ take at buf.old ++ ringed_ending layout.now view.now (tracked_of board.now) count left cycle.now }
+    ensures text { take result buf.new ≡ take at buf.old ++ ringed_ending layout.now view.now (drawn_of drawing.now) count left cycle.now }
     ensures near { result ≤ at + 440000 }
 {
-    let at = add_last_closing(buf, at, layout, view, board, count);
-    let at = add_rings(buf, at, layout, view, cycle);
-    add_ringed_end(buf, at, layout, view, board, count, left, cycle)
+    let at = add_last_closing(buf, at, layout, view, &drawing.board, count);
+    let at = add_rings(buf, at, cycle);
+    add_ringed_end(buf, at, layout, view, drawing, count, left, cycle)
 }
 
 // Sends what the buffer holds, and the end of a picture in which a cycle is ringed.
@@ -126,7 +85,7 @@ fn end_ringed<O: Sink>(
     at: usize,
     layout: &Layout,
     view: &DrawnRange,
-    board: &TraceState,
+    drawing: &Drawing,
     cycle: &Cycle,
     count: u64,
     left: Summary,
@@ -134,15 +93,14 @@ fn end_ringed<O: Sink>(
 ) -> Result<(), SinkFault>
     requires lawful { IsLawful layout.now }
     requires few { count < 2 ^ 42 }
-    requires places { AllByRecursion (λ (n : Edge). n.place < 2 ^ 42) cycle.now }
     requires room { at + 440000 ≤ length buf.old }
     ensures ok { OnOk result (Appends (O.held out.old) (O.held out.new)
-        (take at buf.old ++ ringed_ending layout.now view.now (tracked_of board.now) count left cycle.now)) }
+        (take at buf.old ++ ringed_ending layout.now view.now (drawn_of drawing.now) count left cycle.now)) }
     ensures err { OnErr result (AppendsPrefix (O.held out.old) (O.held out.new)
-        (take at buf.old ++ ringed_ending layout.now view.now (tracked_of board.now) count left cycle.now)) }
+        (take at buf.old ++ ringed_ending layout.now view.now (drawn_of drawing.now) count left cycle.now)) }
     ensures cause { HasCause (O.faults out.old) (O.faults out.new) result }
 {
-    let end = add_ringed_ending(buf, at, layout, view, board, cycle, count, left);
+    let end = add_ringed_ending(buf, at, layout, view, drawing, cycle, count, left);
     put_all(out, &buf[..end])
 }
 
@@ -152,7 +110,7 @@ fn end_ordered<O: Sink>(
     at: usize,
     layout: &Layout,
     view: &DrawnRange,
-    board: &TraceState,
+    drawing: &Drawing,
     graph: &LockGraph,
     count: u64,
     left: Summary,
@@ -163,18 +121,18 @@ fn end_ordered<O: Sink>(
     requires noted { AreNoted graph.now count }
     requires room { at + 440000 ≤ length buf.old }
     ensures ended { (es : List Event) (now : Spec) → IsKept es now graph.now
-        → (end : List ℕ) × ShowsOrdered layout.now view.now (tracked_of board.now) count left es end
+        → (end : List ℕ) × ShowsOrdered layout.now view.now (drawn_of drawing.now) count left es end
         × Sends result (O.held out.old) (O.held out.new) (take at buf.old ++ end) }
     ensures cause { HasCause (O.faults out.old) (O.faults out.new) result }
 {
     match cycle_in(graph) {
-        Some(cycle) => end_ringed(buf, at, layout, view, board, &cycle, count, left, out),
+        Some(cycle) => end_ringed(buf, at, layout, view, drawing, &cycle, count, left, out),
         None => end_with(
             buf,
             at,
             layout,
             view,
-            board,
+            drawing,
             count,
             b"<text class='hd' x='44' y='18'><tspan class='ok'>legal</tspan>, no lock-order cycle, events: ",
             Some(left),
@@ -189,7 +147,7 @@ pub fn end_legal<O: Sink>(
     at: usize,
     layout: &Layout,
     view: &DrawnRange,
-    board: &TraceState,
+    drawing: &Drawing,
     graph: &LockGraph,
     count: u64,
     left: Summary,
@@ -200,19 +158,19 @@ pub fn end_legal<O: Sink>(
     requires noted { view.now.ordered ≡ true → AreNoted graph.now count }
     requires room { at + 440000 ≤ length buf.old }
     ensures ended { (es : List Event) (now : Spec) → (view.now.ordered ≡ true → IsKept es now graph.now)
-        → (end : List ℕ) × IsEnding view.now.ordered layout.now view.now (tracked_of board.now) count left es end
+        → (end : List ℕ) × IsEnding view.now.ordered layout.now view.now (drawn_of drawing.now) count left es end
         × Sends result (O.held out.old) (O.held out.new) (take at buf.old ++ end) }
     ensures cause { HasCause (O.faults out.old) (O.faults out.new) result }
 {
     if view.ordered {
-        end_ordered(buf, at, layout, view, board, graph, count, left, out)
+        end_ordered(buf, at, layout, view, drawing, graph, count, left, out)
     } else {
         end_with(
             buf,
             at,
             layout,
             view,
-            board,
+            drawing,
             count,
             b"<text class='hd' x='44' y='18'><tspan class='ok'>legal</tspan>, events: ",
             Some(left),

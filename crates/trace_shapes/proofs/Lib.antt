@@ -1,3 +1,4 @@
 pub mod Added
 pub mod Bars
+pub mod Counted
 pub mod Digits

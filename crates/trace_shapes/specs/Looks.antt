@@ -1,5 +1,5 @@
 -- The marks of events: how each looks, and what it is the mark of.
-use Rattle.std.specs.Prelude.{ℕ, Bool, true, false, if◌then◌else◌, List, [], ◌∷◌, codes, slice_index}
+use Rattle.std.specs.Prelude.{ℕ, Bool, true, false, if◌then◌else◌, List, codes, slice_index}
 use Rattle.trace_board.specs.declared.marks.Mark.{Mark}
 use Rattle.trace_board.specs.declared.marks.Mark.TheVariants.{Acquire, Release, Enqueue, Resume, Signal, Broadcast, P, V, Alert, TestAlert, AlertEnqueue, AlertReturn, AlertRaise, AlertPReturn, AlertPRaise, Fork, End, Join, Failed}
 use Rattle.trace_shapes.specs.declared.legend.Look.{Look}
@@ -68,9 +68,3 @@ words_of Fork = codes "fork"
 words_of End = codes "end"
 words_of Join = codes "join"
 words_of Failed = codes "event that fails"
-
--- all marks of version one, in the order of the legend
-abbrev pub all_marks : List Mark
-all_marks =
-    Acquire ∷ Release ∷ Enqueue ∷ Resume ∷ Signal ∷ Broadcast ∷ P ∷ V ∷ Alert ∷ TestAlert ∷ AlertEnqueue ∷ AlertReturn ∷ AlertRaise
-    ∷ AlertPReturn ∷ AlertPRaise ∷ Failed ∷ []

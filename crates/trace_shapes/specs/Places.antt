@@ -1,13 +1,11 @@
 -- Where things stand in the picture: a band of columns, one an event, with a row a thread, in points from the upper left.
 use Rattle.std.specs.Prelude.{ℕ, ◌+◌, ◌-◌, ◌*◌, ◌/◌, ◌%◌, ◌==◌, ◌&&◌, not, nat_lt, nat_le, Bool, min, max, if◌then◌else◌}
-use Rattle.larch_actions.specs.declared.event.Version.{Version}
-use Rattle.larch_actions.specs.declared.event.Version.TheVariants.{One, Two}
 use Rattle.larch_actions.specs.declared.event.Layout.{Layout}
 use Rattle.trace_board.specs.declared.history.Origin.{Origin}
 use Rattle.trace_shapes.specs.declared.view.DrawnRange.{DrawnRange}
 use Rattle.trace_shapes.specs.declared.view.Band.{Band}
 use Rattle.trace_shapes.specs.declared.view.Reach.{Reach}
-use Rattle.trace_shapes.specs.declared.geometry.TheConstants.{BAND, COLUMN, LEFT, AXIS, BAND_GAP, ROW, LANE, ROW_GAP, LANES, MARK_TOP, LANE_TOP, BAR_GAP, TOP_ONE, TOP_TWO}
+use Rattle.trace_shapes.specs.declared.geometry.TheConstants.{BAND, COLUMN, LEFT, AXIS, BAND_GAP, ROW, LANE, ROW_GAP, LANES, MARK_TOP, LANE_TOP, BAR_GAP}
 
 -- the event at place n is drawn
 abbrev pub in_view : DrawnRange → ℕ → Bool
@@ -48,16 +46,11 @@ row_height lanes = row_step lanes - ROW_GAP
 abbrev pub band_height : Layout → ℕ
 band_height l = row_step (lanes_of l) * l.threads + (AXIS + BAND_GAP)
 
--- the upper edge of the first band: in version two the legend has a line more
-abbrev pub first_top : Version → ℕ
-first_top One = TOP_ONE
-first_top Two = TOP_TWO
-
--- the upper edge of the band at this number
+-- the upper edge of the band at this number, below the legend
 abbrev pub band_top : Layout → ℕ → ℕ
-band_top l k = first_top l.version + k * band_height l
+band_top l k = k * band_height l
 
--- how high the picture of n events is, but for its last lines
+-- how high the bands of n events are
 abbrev pub height_of : Layout → DrawnRange → ℕ → ℕ
 height_of l v n = band_top l (bands v n)
 

@@ -1,11 +1,13 @@
 -- The texts of marks, bars and rows.
-use Rattle.std.specs.Prelude.{ℕ, zero, suc, ◌+◌, ◌-◌, ◌*◌, ◌%◌, ◌==◌, nat_lt, nat_le, min, max, Bool, if◌then◌else◌, List, [], ◌∷◌, ◌++◌, codes, decimal, Some, None}
+use Rattle.std.specs.Prelude.{ℕ, zero, suc, ◌+◌, ◌-◌, ◌*◌, ◌%◌, ◌==◌, ◌&&◌, nat_lt, nat_le, min, max, Bool, true, false, if◌then◌else◌, List, [], ◌∷◌, ◌++◌, codes, decimal, Some, None}
 use Rattle.std.specs.declared.option.Option.{Option}
 use Rattle.larch_actions.specs.declared.event.Event.{Event}
 use Rattle.larch_actions.specs.declared.event.Broken.{Broken}
 use Rattle.larch_actions.specs.declared.event.Broken.TheVariants as broken
 use Rattle.trace_core.specs.Text.{action_text}
 use Rattle.trace_board.specs.declared.history.Origin.{Origin}
+use Rattle.trace_board.specs.declared.history.Change.{Change}
+use Rattle.trace_board.specs.declared.history.Change.TheVariants.{Begins}
 use Rattle.trace_board.specs.Marks.{marks}
 use Rattle.trace_shapes.specs.declared.view.Band.{Band}
 use Rattle.trace_shapes.specs.declared.view.Reach.{Reach}
@@ -41,11 +43,19 @@ place_text x y = with_number (codes "' x='") x ++ with_number (codes "' y='") y
 unfoldable pub box_text : ℕ → ℕ → ℕ → List ℕ
 box_text x y width = place_text x y ++ with_number (codes "' width='") width
 
+abbrev pub begins : Change → Bool
+begins (Begins k) = true
+begins _ = false
+
+-- how the mark of an event that takes a mutex is called, where the lock order is wanted: its edge may become a ring
+abbrev pub mark_id : Bool → ℕ → Event → List ℕ
+mark_id ordered n e = if ordered && begins (marks e).mutex then with_number (codes "' id='e") n else []
+
 -- the mark of an event: its letter, and its line as the title
-unfoldable pub mark_text : Band → ℕ → Event → List ℕ
-mark_text b n e =
+unfoldable pub mark_text : Bool → Band → ℕ → Event → List ℕ
+mark_text ordered b n e =
     (codes "<use href='#" ++ (look_of (marks e).mark).letter ∷ []) ++ place_text (event_x b n) (mark_y b e.thread.0)
-    ++ (codes "'><title>" ++ line_of n e) ++ codes "</title></use>\n"
+    ++ mark_id ordered n e ++ (codes "'><title>" ++ line_of n e) ++ codes "</title></use>\n"
 
 -- how many digits a small number has, and where it stands in its mark: a longer one ends at the mark's end
 abbrev pub digits_of : ℕ → ℕ

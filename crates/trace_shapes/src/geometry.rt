@@ -76,7 +76,3 @@ pub const FLAG_GAP: u64 = 6;
 pub const FLAG_TURN: u64 = 25;
 /// How far below one another the lines of the legend and of the longest holds stand.
 pub const LINE: u64 = 18;
-/// The upper edge of the first band below the legend, in version one and two.
-pub const TOP_ONE: u64 = 86;
-
-pub const TOP_TWO: u64 = 104;

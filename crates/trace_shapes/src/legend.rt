@@ -1,15 +1,16 @@
 //! The marks of events, and the legend that says what each means.
 //!
 //! A further mark is a row in each function here and in specs/Looks.antt.
-ghost use Rattle.std.specs.Prelude.{◌≡◌, ◌+◌, ◌*◌, ◌<◌, ◌≤◌, ◌∷◌, [], ◌++◌, length, take, codes};
+ghost use Rattle.std.specs.Prelude.{◌≡◌, ◌+◌, ◌*◌, ◌<◌, ◌≤◌, ◌^◌, ◌∷◌, [], ◌++◌, length, take, codes};
+ghost use Rattle.trace_board.specs.History.{entry_of};
 ghost use Rattle.trace_shapes.specs.Shapes.{each_below};
 ghost use Rattle.trace_shapes.specs.Looks.{look, look_of, has_number, letter_x, words_of};
 ghost use Rattle.trace_shapes.specs.Shapes.{with_number};
-ghost use Rattle.trace_shapes.specs.Legend.{place_in_legend, letter_text, shape_text, words_text, entry_text, entry_at, life_line, life_legend};
+ghost use Rattle.trace_shapes.specs.Legend.{name_of, entry_at, entry_x, entry_y, place_in_legend, letter_text, shape_text, words_text, mark_body, body_of, entry_text, is_shown, shown_before, entry_if, legend_text, legend_height};
 
-use crate::geometry::{LETTER_LEFT, MIDDLE};
+use crate::geometry::{LEFT, LETTER_LEFT, LINE, MIDDLE};
 use crate::tags::add_with_number;
-use larch_actions::Version;
+use trace_board::history::Table;
 use trace_board::marks::Mark;
 use trace_core::add;
 
@@ -21,24 +22,54 @@ pub struct Look {
     pub shown: u8,
 }
 
-// All marks of version one, in the order of the legend.
-const MARKS: [Mark; 16] = [
-    Mark::Acquire,
-    Mark::Release,
-    Mark::Enqueue,
-    Mark::Resume,
-    Mark::Signal,
-    Mark::Broadcast,
-    Mark::P,
-    Mark::V,
-    Mark::Alert,
-    Mark::TestAlert,
-    Mark::AlertEnqueue,
-    Mark::AlertReturn,
-    Mark::AlertRaise,
-    Mark::AlertPReturn,
-    Mark::AlertPRaise,
-    Mark::Failed,
+/// What a legend may explain: a mark, arrows, and the bars of semaphores, of mutexes, of threads that wait and of those that were let go on.
+#[derive(Clone, Copy)]
+pub enum Entry {
+    OfMark(Mark),
+    Arrows,
+    Takings,
+    Holds,
+    Waits,
+    LetGo,
+}
+
+/// The names of the entries that are no marks: the classes of what they show.
+pub const ARROWS: u8 = b'a';
+
+pub const TAKINGS: u8 = b'e';
+
+pub const HOLDS: u8 = b'm';
+
+pub const WAITS: u8 = b'h';
+
+pub const LET_GO: u8 = b'd';
+
+// All entries, in the order of the legend.
+const ENTRIES: [Entry; 24] = [
+    Entry::OfMark(Mark::Acquire),
+    Entry::OfMark(Mark::Release),
+    Entry::OfMark(Mark::Enqueue),
+    Entry::OfMark(Mark::Resume),
+    Entry::OfMark(Mark::Signal),
+    Entry::OfMark(Mark::Broadcast),
+    Entry::OfMark(Mark::P),
+    Entry::OfMark(Mark::V),
+    Entry::OfMark(Mark::Alert),
+    Entry::OfMark(Mark::TestAlert),
+    Entry::OfMark(Mark::AlertEnqueue),
+    Entry::OfMark(Mark::AlertReturn),
+    Entry::OfMark(Mark::AlertRaise),
+    Entry::OfMark(Mark::AlertPReturn),
+    Entry::OfMark(Mark::AlertPRaise),
+    Entry::OfMark(Mark::Fork),
+    Entry::OfMark(Mark::End),
+    Entry::OfMark(Mark::Join),
+    Entry::OfMark(Mark::Failed),
+    Entry::Arrows,
+    Entry::Holds,
+    Entry::Takings,
+    Entry::Waits,
+    Entry::LetGo,
 ];
 
 #[inline(always)]
@@ -147,13 +178,30 @@ fn words_of(mark: Mark) -> &'static [u8]
     }
 }
 
-// Adds where an entry of the legend stands.
+// How an entry is called.
+fn name_of(entry: Entry) -> u8
+    ensures { result ≡ name_of entry }
+{
+    match entry {
+        Entry::OfMark(mark) => look_of(mark).letter,
+        Entry::Arrows => ARROWS,
+        Entry::Takings => TAKINGS,
+        Entry::Holds => HOLDS,
+        Entry::Waits => WAITS,
+        Entry::LetGo => LET_GO,
+    }
+}
+
+// Adds where an entry stands that so many others stand before.
 #[tactic(auto, unfolding(crate::specs::Legend::place_in_legend))]
-fn add_place_in_legend(buf: &mut [u8], at: usize, x: u64, y: u64) -> usize
-    requires { at + 100 ≤ length buf.old }
-    ensures text { take result buf.new ≡ take at buf.old ++ place_in_legend x y }
+fn add_place_in_legend(buf: &mut [u8], at: usize, before: u64) -> usize
+    requires few { before < 2 ^ 32 }
+    requires room { at + 100 ≤ length buf.old }
+    ensures text { take result buf.new ≡ take at buf.old ++ place_in_legend before }
     ensures near { result ≤ at + 100 }
 {
+    let x = LEFT + 200 * (before % 6);
+    let y = 6 + LINE * (before / 6);
     let at = add_with_number(buf, at, b"<g transform='translate(", x);
     let at = add_with_number(buf, at, b" ", y);
     add(buf, at, b")'>")
@@ -185,18 +233,19 @@ fn add_letter(buf: &mut [u8], at: usize, mark: Mark) -> usize
     add_with_byte(buf, at, b"'>", look_of(mark).shown)
 }
 
-// Adds a mark as it is drawn.
+// Adds a mark as it is drawn, and one that is drawn so.
 #[tactic(auto, unfolding(crate::specs::Legend::shape_text))]
 fn add_shape(buf: &mut [u8], at: usize, mark: Mark) -> usize
-    requires { at + 200 ≤ length buf.old }
+    requires { at + 220 ≤ length buf.old }
     ensures text { take result buf.new ≡ take at buf.old ++ shape_text mark }
-    ensures near { result ≤ at + 200 }
+    ensures near { result ≤ at + 220 }
 {
     let look = look_of(mark);
-    let at = add_with_byte(buf, at, b"<g id='", look.letter);
+    let at = add_with_byte(buf, at, b"<defs><g id='", look.letter);
     let at = add_with_byte(buf, at, b"'><rect class='", look.class);
     let at = add_letter(buf, at, mark);
-    add(buf, at, b"</text></g>")
+    let at = add_with_byte(buf, at, b"</text></g></defs><use href='#", look.letter);
+    add(buf, at, b"'/>")
 }
 
 // Adds what the mark is the mark of.
@@ -211,63 +260,130 @@ fn add_words(buf: &mut [u8], at: usize, mark: Mark) -> usize
     add(buf, at, b"</text></g>\n")
 }
 
-// Adds the entry of a mark.
-#[tactic(auto, unfolding(crate::specs::Legend::entry_text))]
-fn add_entry(buf: &mut [u8], at: usize, x: u64, y: u64, mark: Mark) -> usize
-    requires { at + 380 ≤ length buf.old }
-    ensures text { take result buf.new ≡ take at buf.old ++ entry_text x y mark }
-    ensures near { result ≤ at + 380 }
+// Adds a mark and what it is the mark of.
+fn add_mark_body(buf: &mut [u8], at: usize, mark: Mark) -> usize
+    requires { at + 300 ≤ length buf.old }
+    ensures text { take result buf.new ≡ take at buf.old ++ mark_body mark }
+    ensures near { result ≤ at + 300 }
 {
-    let at = add_place_in_legend(buf, at, x, y);
     let at = add_shape(buf, at, mark);
     add_words(buf, at, mark)
 }
 
-/// Adds the entries of all marks of version one.
-pub fn add_entries(buf: &mut [u8], at: usize) -> usize
-    requires { at + 6080 ≤ length buf.old }
-    ensures text { take result buf.new ≡ take at buf.old ++ each_below entry_at 16 }
-    ensures near { result ≤ at + 6080 }
+// Adds what an entry shows, and its words.
+fn add_body(buf: &mut [u8], at: usize, entry: Entry) -> usize
+    requires { at + 300 ≤ length buf.old }
+    ensures text { take result buf.new ≡ take at buf.old ++ body_of entry }
+    ensures near { result ≤ at + 300 }
+{
+    match entry {
+        Entry::OfMark(mark) => add_mark_body(buf, at, mark),
+        Entry::Arrows => add(
+            buf,
+            at,
+            b"<path class='a' d='M0 8H32'/><text x='39' y='12'>lets another thread go on</text></g>\n",
+        ),
+        Entry::Takings => add(
+            buf,
+            at,
+            b"<rect class='e' y='2' width='34' height='12' rx='2'/><text class='x' x='4' y='12'>s0</text><text x='39' y='12'>semaphore s0 is taken</text></g>\n",
+        ),
+        Entry::Holds => add(
+            buf,
+            at,
+            b"<rect class='m0' y='2' width='34' height='12' rx='2'/><text class='x' x='4' y='12'>m0</text><text x='39' y='12'>holds mutex m0</text></g>\n",
+        ),
+        Entry::Waits => add(
+            buf,
+            at,
+            b"<rect class='h' y='3' width='34' height='9'/><text class='hx' x='4' y='11'>c0</text><text x='39' y='12'>waits in condition c0</text></g>\n",
+        ),
+        Entry::LetGo => add(
+            buf,
+            at,
+            b"<rect class='d' y='3' width='34' height='9'/><text x='39' y='12'>let go on, not yet resumed</text></g>\n",
+        ),
+    }
+}
+
+// Adds an entry that so many others stand before.
+#[tactic(auto, unfolding(crate::specs::Legend::entry_text))]
+fn add_entry(buf: &mut [u8], at: usize, before: u64, entry: Entry) -> usize
+    requires few { before < 2 ^ 32 }
+    requires room { at + 400 ≤ length buf.old }
+    ensures text { take result buf.new ≡ take at buf.old ++ entry_text before entry }
+    ensures near { result ≤ at + 400 }
+{
+    let at = add_place_in_legend(buf, at, before);
+    add_body(buf, at, entry)
+}
+
+// The entry at this place of all.
+fn entry_at(place: u64) -> Entry
+    requires { place < 24 }
+    ensures { result ≡ entry_at place }
+{
+    ENTRIES[place as usize]
+}
+
+// Whether the entry at this place of all is in the table.
+fn is_shown(shown: &Table, place: u64) -> bool
+    requires { place < 24 }
+    ensures { result ≡ is_shown (entry_of shown.now) place }
+{
+    let name = name_of(entry_at(place));
+    shown.at(u32::from(name)).is_some()
+}
+
+// Adds the entry at this place of all, if it is in the table.
+fn add_entry_if(buf: &mut [u8], at: usize, shown: &Table, place: u64, before: u64) -> usize
+    requires within { place < 24 }
+    requires before { before ≡ shown_before (entry_of shown.now) place }
+    requires few { before < 2 ^ 32 }
+    requires room { at + 400 ≤ length buf.old }
+    ensures text { take result buf.new ≡ take at buf.old ++ entry_if (entry_of shown.now) place }
+    ensures near { result ≤ at + 400 }
+{
+    if is_shown(shown, place) {
+        add_entry(buf, at, before, entry_at(place))
+    } else {
+        at
+    }
+}
+
+// How many of the first entries are in the table.
+fn count_shown(shown: &Table, places: u64) -> u64
+    requires { places ≤ 24 }
+    ensures count { result ≡ shown_before (entry_of shown.now) places }
+    ensures few { result ≤ places }
+{
+    let mut count = 0;
+    for place in 0..places {
+        if is_shown(shown, place) {
+            count += 1;
+        }
+    }
+    count
+}
+
+/// Adds the legend of what is in the table, by the names of the entries.
+#[tactic(auto, unfolding(crate::specs::Legend::legend_text))]
+pub fn add_legend(buf: &mut [u8], at: usize, shown: &Table) -> usize
+    requires { at + 9600 ≤ length buf.old }
+    ensures text { take result buf.new ≡ take at buf.old ++ legend_text (entry_of shown.now) }
+    ensures near { result ≤ at + 9600 }
 {
     let mut last = at;
-    for place in 0..16 {
-        let mark = MARKS[place as usize];
-        last = add_entry(
-            buf,
-            last,
-            44 + 200 * (place % 6),
-            6 + 18 * (place / 6),
-            mark,
-        );
+    for place in 0..24 {
+        last = add_entry_if(buf, last, shown, place, count_shown(shown, place));
     }
     last
 }
 
-// Adds the line that the legend has more in version two.
-#[tactic(auto, unfolding(crate::specs::Legend::life_line, crate::specs::Legend::life_words))]
-fn add_life_line(buf: &mut [u8], at: usize) -> usize
-    requires { at + 1500 ≤ length buf.old }
-    ensures text { take result buf.new ≡ take at buf.old ++ life_line }
-    ensures near { result ≤ at + 1500 }
+/// How high the legend is.
+pub fn height_of_legend(shown: &Table) -> u64
+    ensures height { result ≡ legend_height (entry_of shown.now) }
+    ensures small { result < 2 ^ 10 }
 {
-    let at = add_entry(buf, at, 44, 78, Mark::Fork);
-    let at = add_entry(buf, at, 244, 78, Mark::End);
-    let at = add_entry(buf, at, 444, 78, Mark::Join);
-    add(
-        buf,
-        at,
-        b"<text x='644' y='90'>a row goes from its thread's fork to its end</text>\n",
-    )
-}
-
-/// Adds what the legend has more in a later version.
-pub fn add_life_legend(buf: &mut [u8], at: usize, version: Version) -> usize
-    requires { at + 1500 ≤ length buf.old }
-    ensures text { take result buf.new ≡ take at buf.old ++ life_legend version }
-    ensures near { result ≤ at + 1500 }
-{
-    match version {
-        Version::One => at,
-        Version::Two => add_life_line(buf, at),
-    }
+    14 + LINE * ((count_shown(shown, 24) + 5) / 6)
 }

@@ -3,7 +3,7 @@ ghost use Rattle.std.specs.Prelude.{◌≡◌, ◌+◌, ◌-◌, ◌*◌, ◌%�
 ghost use Rattle.trace_board.specs.Marks.{marks};
 ghost use Rattle.trace_shapes.specs.Looks.{look_of};
 ghost use Rattle.trace_shapes.specs.Places.{bar_from, bar_width, bar_x, column_x, event_x, lane_y, mark_y, row_y, row_step, row_height, wait_x, wait_end};
-ghost use Rattle.trace_shapes.specs.Shapes.{with_number, line_of, place_text, box_text, clause_word, clause_name, strike_text, flag_place, flag_text, mark_text, failed_mark, failed_text, end_words, span_text, giver_text, given_text, bar_box, bar_name, bar_text, taken_text, wait_name, wait_name_if, wait_part, in_text, in_if, let_go_x, out_text, out_if, parts_text, wait_text, row_name, row_text, number_text, digits_of, number_left, object_text, object_if};
+ghost use Rattle.trace_shapes.specs.Shapes.{with_number, line_of, place_text, box_text, clause_word, clause_name, strike_text, flag_place, flag_text, begins, mark_id, mark_text, failed_mark, failed_text, end_words, span_text, giver_text, given_text, bar_box, bar_name, bar_text, taken_text, wait_name, wait_name_if, wait_part, in_text, in_if, let_go_x, out_text, out_if, parts_text, wait_text, row_name, row_text, number_text, digits_of, number_left, object_text, object_if};
 
 use crate::geometry::{
     AXIS, BAR_GAP, COLUMN, DIGIT_LEFT, DIGITS_END, FLAG_GAP, FLAG_TURN, LANE, LANE_TOP, LEFT,
@@ -14,7 +14,7 @@ use crate::legend::{has_number, look_of};
 use crate::tags::{add_box, add_line, add_place, add_with_number};
 use crate::view::{Band, Reach, Strip};
 use larch_actions::{Broken, Event};
-use trace_board::history::Origin;
+use trace_board::history::{Change, Origin};
 use trace_board::marks::{Effects, Mark};
 use trace_core::add;
 
@@ -112,11 +112,44 @@ fn add_mark_place(buf: &mut [u8], at: usize, band: &Band, place: u64, e: &Event)
     add_place(buf, at, event_x(band, place), mark_y(band, e.thread.0))
 }
 
-/// Adds the mark of an event, which shows this.
+/// Whether the effect begins something.
+pub fn begins(effect: Change) -> bool
+    ensures { result ≡ begins effect }
+{
+    match effect {
+        Change::Begins(_) => true,
+        Change::Ends(_) => false,
+        Change::Stays => false,
+    }
+}
+
+// Adds how the mark of an event that takes a mutex is called, where the lock order is wanted.
+fn add_mark_id(
+    buf: &mut [u8],
+    at: usize,
+    ordered: bool,
+    place: u64,
+    e: &Event,
+    shown: &Effects,
+) -> usize
+    requires same { shown.now ≡ marks e.now }
+    requires room { at + 30 ≤ length buf.old }
+    ensures text { take result buf.new ≡ take at buf.old ++ mark_id ordered place e.now }
+    ensures near { result ≤ at + 30 }
+{
+    if ordered && begins(shown.mutex) {
+        add_with_number(buf, at, b"' id='e", place)
+    } else {
+        at
+    }
+}
+
+/// Adds the mark of an event, which shows this; where the lock order is wanted, with the name that a ring is set by.
 #[tactic(auto, unfolding(crate::specs::Shapes::mark_text))]
 pub fn add_mark(
     buf: &mut [u8],
     at: usize,
+    ordered: bool,
     band: &Band,
     place: u64,
     e: &Event,
@@ -124,12 +157,13 @@ pub fn add_mark(
 ) -> usize
     requires same { shown.now ≡ marks e.now }
     requires place { place < 2 ^ 42 }
-    requires room { at + 1600 ≤ length buf.old }
-    ensures text { take result buf.new ≡ take at buf.old ++ mark_text band.now place e.now }
-    ensures near { result ≤ at + 1600 }
+    requires room { at + 1630 ≤ length buf.old }
+    ensures text { take result buf.new ≡ take at buf.old ++ mark_text ordered band.now place e.now }
+    ensures near { result ≤ at + 1630 }
 {
     let at = add_use(buf, at, shown.mark);
     let at = add_mark_place(buf, at, band, place, e);
+    let at = add_mark_id(buf, at, ordered, place, e, shown);
     let at = add_title(buf, at, place, e);
     add(buf, at, b"</title></use>\n")
 }

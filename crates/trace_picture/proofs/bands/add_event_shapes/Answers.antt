@@ -1,19 +1,39 @@
-use Rattle.std.proofs.Common.{◌++◌, take, ◌∙◌}
+use Rattle.std.proofs.Common.{◌≡◌, ◌≤◌, Bool, ◌++◌, length, take, ap, ◌∙◌, arith}
+use Rattle.trace_board.specs.History.{entry_of}
 use Rattle.trace_board.specs.Tracked.{tracked_of}
-use Rattle.trace_shapes.specs.Shapes.{number_text, mark_text, object_if}
-use Rattle.trace_shapes.proofs.Added.{added_six}
-use Rattle.trace_picture.specs.Lives.{life_row}
-use Rattle.trace_picture.specs.Bands.{up_to, bars_ended, arrows_at, event_shapes}
+use Rattle.trace_shapes.proofs.Added.{added_two}
+use Rattle.trace_picture.specs.Bands.{event_marks, arrows_at, event_shapes}
+use Rattle.trace_picture.specs.Shown.{has_text, opened, shown_by}
+use Rattle.trace_picture.proofs.Showing.{text_there}
 use Rattle.trace_picture.proofs.bands.add_event_shapes.Goals as goal
 
 pub returns-clause-text : goal.returns-clause-text
 unfolding event_shapes
 returns-clause-text c =
     let old = take c.args.at c.args.buf.now in
-    let b = c.args.band.now in
-    let k = tracked_of c.args.board.now in
+    let k = tracked_of c.args.drawing.now.board in
     let n = c.args.place in
     let e = c.args.e.now in
+    let b = c.band_of-band.ensures in
     let m = c.marks_of-shown.ensures in
-    added_six old _ _ _ _ _ _ _ _ c.add_label-at.ensures.text c.add_life_row-at.ensures.text c.add_mark-at.ensures.text _ _ _ _ c.add_object_if-at.ensures.text c.add_bars_ended-at.ensures.text c.add_arrows.ensures.text
-    ∙ (λ i. old ++ (number_text b n ++ life_row b n (m i).life ++ mark_text b n e ++ object_if b n e ++ bars_ended (up_to b n) k (m i) ++ arrows_at b k (record { thread = e.thread; object = (m i).object; place = n }) (m i)))
+    added_two old _ _ _ _ c.add_event_marks-marked.ensures.text c.add_arrows-end.ensures.text
+    ∙ (λ i. old ++ (event_marks c.args.view.now.ordered (b i) k n e ++ arrows_at (b i) k (record { thread = e.thread; object = (m i).object; place = n }) (m i)))
+
+pub returns-clause-shown : goal.returns-clause-shown
+returns-clause-shown c =
+    let l = c.args.layout.now in
+    let v = c.args.view.now in
+    let k = tracked_of c.args.drawing.now.board in
+    let n = c.args.place in
+    let e = c.args.e.now in
+    let b = c.band_of-band.ensures in
+    let m = c.marks_of-shown.ensures in
+    let marked = c.add_event_marks-marked in
+    let end = c.add_arrows-end in
+    let within : marked.result ≤ length marked.new.buf = omega (arith, marked.ensures.near, marked.auto.buf, c.requires.room) in
+    let within_too : end.result ≤ length end.new.buf = omega (arith, marked.ensures.near, end.ensures.near, marked.auto.buf, end.auto.buf, c.requires.room) in
+    let arrows = text_there marked.new.buf end.new.buf _ marked.result end.result within within_too end.ensures.text in
+    let shown = entry_of c.args.drawing.now.shown in
+    c.note_event.ensures ∙ ap (shown_by _ _ _) c.note_opening.ensures
+    ∙ ap (λ (x : Bool). shown_by (record { thread = e.thread; object = c.marks_of-shown.result.object; place = n }) c.marks_of-shown.result x (opened l v k (record { thread = e.thread; object = c.marks_of-shown.result.object; place = n }) shown)) arrows
+    ∙ (λ i. shown_by (record { thread = e.thread; object = (m i).object; place = n }) (m i) (has_text (arrows_at (b i) k (record { thread = e.thread; object = (m i).object; place = n }) (m i))) (opened l v k (record { thread = e.thread; object = (m i).object; place = n }) shown))

@@ -4,7 +4,7 @@ use Rattle.larch_actions.specs.Layout.{HasNames}
 use Rattle.trace_check.proofs.UnderWay.{head_fault, fault_on, fails_on, ends_on}
 use Rattle.trace_check.proofs.Prefixes.{event_line_some}
 use Rattle.trace_core.specs.Reader.{standing}
-use Rattle.trace_board.specs.Tracked.{tracked_of}
+use Rattle.trace_picture.specs.Shown.{drawn_of}
 use Rattle.trace_picture.specs.Picture.{head_text}
 use Rattle.larch_actions.specs.State.{spec_of}
 use Rattle.lock_order.proofs.Reading.{has_place}
@@ -38,7 +38,7 @@ pub loop-free-init : goal.loop-free-init
 loop-free-init g c =
     let text : take c.add_head-at.result c.add_head-at.new.buf ≡ [] ++ head_text c.in-Ok.layout = c.add_head-at.ensures.text ∙ ap (λ x. x ++ head_text c.in-Ok.layout) (take_none c.args.buf.now) in
     record {
-      ringing = ringing_starts _ _ _ _ _ _ c.in-Ok.layout c.new-state.result c.args.view.now (g.O.Sink.held c.args.out.now) (take c.add_head-at.result c.add_head-at.new.buf) (tracked_of c.new-board.result) c.args.view.now.ordered c.args.graph.now refl refl c.requires.lines c.in-Ok.ensures.head c.head.ensures.later c.new-state.ensures.layout c.new-state.ensures.first text c.new-board.ensures c.requires.empty;
+      ringing = ringing_starts _ _ _ _ _ _ c.in-Ok.layout c.new-state.result c.args.view.now (g.O.Sink.held c.args.out.now) (take c.add_head-at.result c.add_head-at.new.buf) (drawn_of c.new-drawing.result) c.args.view.now.ordered c.args.graph.now refl refl c.requires.lines c.in-Ok.ensures.head c.head.ensures.later c.new-state.ensures.layout c.new-state.ensures.first text c.new-drawing.ensures c.requires.empty;
       laid = sym c.in-Ok.ensures.head.layout;
       within = omega (arith, c.add_head-at.ensures.near, c.requires.large, c.add_head-at.auto.buf);
       same_input = c.head.ensures.same_input;
@@ -68,7 +68,7 @@ loop-free-preserved g c =
     let taken = rw c.in-Ok-Some.field-0-is at (c.in-Ok-Some.ensures.event u.phase) in
     let d = ringing_room _ _ _ _ _ _ _ _ _ _ _ _ _ _ i.ringing (g.O.Sink.held c.make_room.new.out) (take c.in-Ok-make_room.free c.loop-free.buf) c.in-Ok-make_room.ensures.ok in
     record {
-      ringing = ringing_steps _ _ _ _ _ _ _ _ _ _ _ _ _ _ d _ _ c.apply.new.self c.in-Ok-Some.event (take c.add_step-at.result c.add_step-at.new.buf) (tracked_of c.add_step-at.new.board) c.note_if.new.graph c.in-Ok.layout i.laid fits taken c.in-Ok-apply.ensures.ok c.apply.ensures.layout c.next_event.ensures.later c.add_step-at.ensures.text c.add_step-at.ensures.kept c.note_if.ensures;
+      ringing = ringing_steps _ _ _ _ _ _ _ _ _ _ _ _ _ _ d _ _ c.apply.new.self c.in-Ok-Some.event (take c.add_step-at.result c.add_step-at.new.buf) (drawn_of c.add_step-at.new.drawing) c.note_if.new.graph c.in-Ok.layout i.laid fits taken c.in-Ok-apply.ensures.ok c.apply.ensures.layout c.next_event.ensures.later c.add_step-at.ensures.text c.add_step-at.ensures.kept c.note_if.ensures;
       laid = i.laid ∙ sym taken.layout;
       within = omega (arith, c.add_step-at.ensures.near, c.in-Ok-make_room.ensures.room, c.add_step-at.auto.buf);
       same_input = c.next_event.ensures.same_input ∙ i.same_input;

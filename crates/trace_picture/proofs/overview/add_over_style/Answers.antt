@@ -5,7 +5,7 @@ use Rattle.std.proofs.lemmas.Bool.Decides.{nat_tests}
 use Rattle.trace_shapes.specs.Shapes.{with_number}
 use Rattle.trace_shapes.specs.Places.{bands}
 use Rattle.trace_picture.specs.Overview.{over_height}
-use Rattle.trace_shapes.proofs.Added.{added_three}
+use Rattle.trace_shapes.proofs.Added.{added_two}
 use Rattle.trace_picture.proofs.overview.add_over_style.Goals as goal
 
 is_more : (i k n : ℕ) → k ≡ n → i < k → nat_lt i n ≡ true
@@ -14,9 +14,8 @@ is_more i k n same h = grind (arith, nat_tests)
 is_no_more : (i k n : ℕ) → k ≡ n → k ≤ i → nat_lt i n ≡ false
 is_no_more i k n same h = grind (arith, nat_tests)
 
-module _ (height : ℕ) where
-  abbrev shown : List ℕ
-  shown = with_number (codes "px)}.w{transform:translate(0,") height ++ with_number (codes "px)}.u{display:inline;transform:translate(0,112px) translate(0,-") height ++ codes "px)}</style>\n</svg>\n"
+abbrev shown : ℕ → List ℕ
+shown height = with_number (codes "px)}.u{display:inline;transform:translate(0,8px) translate(0,-") height ++ codes "px)}</style>\n</svg>\n"
 
 abbrev hidden : List ℕ
 hidden = codes "px)}</style>\n</svg>\n"
@@ -27,8 +26,8 @@ returns-then-count_bands-gt10-clause-text c =
     let v = c.args.view.now in
     let n = c.args.count in
     let more = is_more 10 c.count_bands.result (bands v n) c.count_bands.ensures.bands c.if-count_bands-gt10.true in
-    added_three old _ _ _ _ _ _ [] [] c.add_with_number-at.ensures.text c.add_with_number-at-then-count_bands-gt10.ensures.text c.add.ensures.text
-    ∙ ap (λ h. old ++ shown h) c.height_of_overview-height.ensures.height
+    added_two old _ _ _ _ c.add_with_number-at.ensures.text c.add.ensures.text
+    ∙ ap (λ h. old ++ shown h) c.height_of_overview.ensures.height
     ∙ ap (λ x. old ++ x) (sym (cond-true (nat_lt 10 (bands v n)) (shown (over_height c.args.layout.now v n)) hidden more))
 
 pub returns-else-count_bands-gt10-clause-text : goal.returns-else-count_bands-gt10-clause-text

@@ -1,14 +1,8 @@
-use Rattle.std.proofs.Common.{◌^◌, inl, inr, refl}
-use Rattle.trace_picture.proofs.Ringing.{cycle_near}
+use Rattle.std.proofs.Common.{inl, inr, refl}
 use Rattle.trace_picture.proofs.rings.end_ordered.Goals as goal
 
 pub cycle_in-requires : goal.cycle_in-requires
 cycle_in-requires g c = c.requires.noted.2.low
-
-pub end_ringed-requires-clause-places : goal.end_ringed-requires-clause-places
-end_ringed-requires-clause-places g c =
-    let n = c.requires.noted in
-    cycle_near n.0 (2 ^ 42) c.args.count c.in-Some.cycle (c.in-Some.ensures n.0 n.1 n.2) n.3 c.requires.few
 
 pub returns-in-Some-clause-ended : goal.returns-in-Some-clause-ended
 returns-in-Some-clause-ended g c = λ es now k. (_, inl (c.in-Some.cycle, c.in-Some.ensures es now k, refl), (c.end_ringed.ensures.ok, c.end_ringed.ensures.err))
