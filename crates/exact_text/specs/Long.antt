@@ -1,9 +1,9 @@
 -- What is taken where memory may run out.
-use Rattle.std.specs.Prelude.{ℕ, List, Bool, Result, Ok, Err}
+use Rattle.std.specs.Prelude.{ℕ, List, Bool, Result, Err}
 use Rattle.std.specs.declared.option.Option.{Option}
 use Rattle.exact_text.specs.declared.intake.Intake.{Intake}
 use Rattle.exact_text.specs.declared.fault.TextFault.{TextFault}
-use Rattle.exact_text.specs.declared.fault.TextFault.TheVariants.{Memory, BadLine, TooLong, Read}
+use Rattle.exact_text.specs.declared.fault.TextFault.TheVariants.{Memory}
 use Rattle.exact_text.specs.Intake.{IsFilled, IsAsked}
 
 -- what one more piece does

@@ -18,11 +18,19 @@ use Rattle.trace_core.specs.declared.line.Line.TheVariants as line
 use Rattle.trace_core.specs.declared.line.Expect.TheVariants as expect
 use Rattle.trace_core.specs.Text.{first_line, layout_line, head_text, event_line, end_line}
 use Rattle.exact_text.proofs.CodeLaws.{ok_injective}
-use Rattle.trace_core.specs.Lines.{line_at, line_text, IsPossible, IsAllowed}
+use Rattle.trace_core.specs.Lines.{line_at, line_text, IsPossible, IsAllowed, IsTextFrom, IsTextAfter}
 use Rattle.trace_core.proofs.LineLaws.{line_code}
+use Rattle.trace_core.proofs.Texts.{line_grammar}
 use Rattle.trace_core.proofs.Plain.{plain_event, plain_is_read, plain_line}
 use Rattle.exact_text.proofs.Stuck.{for_some, take_after}
+use Rattle.exact_text.proofs.Texts.{bytes_before, reason_line}
 use Rattle.std.proofs.KnownBytes.{Consumes-trans}
+
+-- why the rest wasn't read after a line is why the text wasn't
+pub after_line : (x : Expect) (ok : IsPossible x) (y : Line) → IsAllowed x y → (r r' left' : Option (List ℕ)) (lines lines' room room' first before now : ℕ) (fault : TextFault) → Consumes r r' (line_text x y) → room' + length (line_text x y) ≡ room
+    → lines' ≡ lines + 1 → first ≤ before → HasReason (IsTextAfter x y) (bytes_room room') lines' r' left' before now fault → HasReason (IsTextFrom x) (bytes_room room) lines r left' first now fault
+after_line x ok y a r r' left' lines lines' room room' first before now fault c size count le h =
+    reason_line (λ _ t. inr t) (λ _ t. t) (line_grammar x ok) (line_code x ok) y a (bytes_room room) (bytes_room room') (bytes_before (line_text x y) room room' size) r r' left' lines lines' first before now fault c count le h
 
 misses : (x : Expect) → IsPossible x → (w : List ℕ) (s : Stop) → line_at x w ≡ Err s → Misses (IsAllowed x) (line_text x) w
 misses x ok w s e = λ y a h eq. let o = ap (line_at x) eq ∙ (line_code x ok).again y a h in absurd (cc)
