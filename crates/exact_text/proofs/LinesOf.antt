@@ -5,7 +5,8 @@ use Rattle.exact_text.specs.declared.stop.Stop.{Stop}
 use Rattle.exact_text.specs.Codes.{IsCode}
 use Rattle.exact_text.specs.Prefixes.{Begins, IsLine}
 use Rattle.exact_text.specs.Exact.{lines_room}
-use Rattle.exact_text.specs.Unfolds.{Unfolds, AreLines}
+use Rattle.exact_text.specs.Unfolds.{IsLineAnd, Unfolds, AreLines}
+use Rattle.exact_text.proofs.Grammar.{line_grammar}
 use Rattle.exact_text.proofs.Reaches.{Reaches, reach_here, reach_then, reach_line}
 use Rattle.exact_text.proofs.Texts.{IsRoomBefore, line_before, room_then}
 
@@ -17,9 +18,8 @@ module _ {X : Type 0} {lawful : X → Type 0} {text : X → List ℕ} {read : Li
   abbrev Lines : List ℕ → Type 0
   Lines = AreLines lawful text
 
-  -- one line at least
   abbrev SomeLines : List ℕ → Type 0
-  SomeLines bytes = (x : X) × (rest : List ℕ) × lawful x × Lines rest × (bytes ≡ text x ++ rest)
+  SomeLines = IsLineAnd lawful text (λ _. Lines)
 
   pub lines_some : (bytes : List ℕ) → Lines bytes → (bytes ≡ []) ⊎ SomeLines bytes
   lines_some bytes ([], all, e) = inl e
@@ -33,13 +33,7 @@ module _ {X : Type 0} {lawful : X → Type 0} {text : X → List ℕ} {read : Li
 
   module _ (line : (x : X) → lawful x → IsLine (text x)) where
     pub lines_grammar : (x : X) × lawful x → Unfolds SomeLines lawful text (λ _. Lines)
-    lines_grammar some = record {
-      opens = λ bytes t. t;
-      closes = λ x rest l n. (x, rest, l, n, refl);
-      goes_on = λ x l. ([], ([], tt, refl));
-      some = some;
-      lines = line;
-    }
+    lines_grammar some = line_grammar (λ x l. ([], ([], tt, refl))) some line
 
     -- past lines
     pub reach_lines : (xs : List X) → AllByRecursion lawful xs → (rest : List ℕ) → Reaches Lines (flat_map text xs ++ rest) Lines rest (length xs)

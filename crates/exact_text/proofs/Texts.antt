@@ -154,6 +154,13 @@ full_reason {T} none (Some input) left' m lines before now e more =
     let empty : first_lines m input ≡ [] = ap (λ k. first_lines k input) e ∙ first_lines-zero input in
     (omega (arith, ap length empty, more), subst (Begins T) (sym (front m input ∙ empty)) none)
 
+-- The input has ended, and the text hasn't.
+pub ended_reason : {T : List ℕ → Type 0} → Begins T [] → (T [] → ⊥) → (room : List ℕ → ℕ) (r left' : Option (List ℕ)) (lines before now k : ℕ) → k ≡ lines + 1 → IfSome r (λ input. input ≡ []) → HasReason T room lines r left' before now (BadLine k)
+ended_reason none more room None left' lines before now k one h = (omega (arith, one), tt)
+ended_reason {T} none more room (Some input) left' lines before now k one h =
+    let last : k - lines ≡ newlines [] + 1 = omega (arith, one) in
+    (omega (arith, one), inr (omega (arith, ap length h), subst (λ l. IsCutShortAt T l (k - lines)) (sym h) (record { prefix = none; no_text = more; last = last })))
+
 -- The texts of T are those of S, and maybe nothing.
 module _ {S T : List ℕ → Type 0} (some : (bytes : List ℕ) → T bytes → (bytes ≡ []) ⊎ S bytes) (back : (bytes : List ℕ) → S bytes → T bytes) where
   -- what is a reason after a line is one of the whole

@@ -23,7 +23,8 @@ use Rattle.index_text.specs.Steps.{IsRowsText, IsHitsText, IsSkippedText}
 use Rattle.index_text.specs.Takes.{Lacks, IsAll, TakesHit, TakesSkipped, TakesPaths, TakesRow, TakesRows}
 use Rattle.index_text.proofs.LineCodes.{heading_code, hit_code, skipped_code}
 use Rattle.index_text.proofs.States.{Following, rows_grammar, skipped_grammar, hits_grammar, rows_some, rows_back, skipped_some, skipped_back}
-use Rattle.index_text.proofs.Loops.{Reaches, reach_then, reach_heading, end_path, end_of, end_of_is, end_path_is, end_word_is, hits_push, paths_push, rows_push, path_stays, end_stays, word_stays, reach_hits, reach_paths, reach_rows, lines_of, lines_push}
+use Rattle.exact_text.proofs.Reaches.{Reaches, reach_then}
+use Rattle.index_text.proofs.Loops.{reach_heading, end_path, end_of, end_of_is, end_path_is, end_word_is, hits_push, paths_push, rows_push, path_stays, end_stays, word_stays, reach_hits, reach_paths, reach_rows, lines_of, lines_push}
 use Rattle.index_text.proofs.Reasons.{taken_none, taken_then, taken_asked, taken_all, all_after, lacks_after, lacks_line, lacks_first, lacks_asked}
 
 -- a taker that was offered something was offered more
@@ -177,7 +178,7 @@ module _ {start : Intake} {first : Option (List ℕ)} {old now : Offered} {intak
       let last = last_skipped now in
       let ok : IsLastPath last = last_is now paths_rise in
       lacks_after t.taken paths_reach there begin a c f same
-      (lacks_first (skipped_some last) (skipped_back last) (skipped_grammar last ok) (skipped_code last ok) intake mid here on there a b c f asked unfailed h)
+      (lacks_first (skipped_grammar last ok) (skipped_code last ok) (skipped_some last) (skipped_back last) intake mid here on there a b c f asked unfailed h)
 
 -- some rows
 pub record TakenRows (start : Intake) (first : Option (List ℕ)) (now : Offered) (intake : Intake) (here : Option (List ℕ)) : Type 0 where
@@ -232,7 +233,7 @@ module _ {start : Intake} {first : Option (List ℕ)} {now : Offered} {intake : 
   rows_stop mid on there begin a b c f asked same unfailed h =
       let last = last_word now in
       lacks_after t.taken rows_reach there begin a c f same
-      (lacks_first (rows_some last) (rows_back last) (rows_grammar last) (heading_code last last_ok) intake mid here on there a b c f asked unfailed h)
+      (lacks_first (rows_grammar last) (heading_code last last_ok) (rows_some last) (rows_back last) intake mid here on there a b c f asked unfailed h)
 
   module _ (mid after : Intake) (on there : Option (List ℕ)) (a b : ℕ) (asked : IsLongAsked intake mid here on a b (Ok true)) (laid : List ℕ) (x : Heading) (is : IsHeading (last_word now) x) (line : IsTaken (heading_text x) 1 mid after on there) where
     heading_taken : IsTaken (flat_map row_text now.rows ++ heading_text x) (lines_of now.rows + 1) start after first there

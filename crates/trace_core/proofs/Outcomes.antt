@@ -17,7 +17,7 @@ use Rattle.larch_actions.specs.Layout.{IsLawful, HasNames}
 use Rattle.trace_core.specs.declared.line.Line.TheVariants as line
 use Rattle.trace_core.specs.declared.line.Expect.TheVariants as expect
 use Rattle.trace_core.specs.Text.{first_line, layout_line, head_text, event_line, end_line}
-use Rattle.exact_text.proofs.CodeLaws.{ok_injective}
+use Rattle.exact_text.proofs.CodeLaws.{read_same}
 use Rattle.trace_core.specs.Lines.{line_at, line_text, IsPossible, IsAllowed, IsTextFrom, IsTextAfter}
 use Rattle.trace_core.proofs.LineLaws.{line_code}
 use Rattle.trace_core.proofs.Texts.{line_grammar}
@@ -51,11 +51,7 @@ stuck_lacks x ok r left' lines room before now Read h = (h.1.0, h.1.1, misses x 
 
 -- two lines at the front of the same bytes are one
 pub same_line : (x : Expect) → IsPossible x → (y z : Line) (a b : List ℕ) → IsAllowed x y → IsAllowed x z → line_text x y ++ a ≡ line_text x z ++ b → (y ≡ z) × (a ≡ b)
-same_line x ok y z a b p q e =
-    let code = line_code x ok in
-    let k : Ok (y, a) ≡ Ok (z, b) = sym (code.again y a p) ∙ ap (line_at x) e ∙ code.again z b q in
-    let i : (y, a) ≡ (z, b) = ok_injective k in
-    (ap (λ p. p.0) i, ap (λ p. p.1) i)
+same_line x ok y z a b p q e = read_same (line_code x ok) y z a b p q e
 
 -- bytes that miss the one miss the other
 lacks_also : {X Y : Type 0} (lawful : X → Type 0) (text : X → List ℕ) (lawful' : Y → Type 0) (text' : Y → List ℕ) (room : ℕ) (r left' : Option (List ℕ)) (fault : TextFault)
