@@ -1,6 +1,5 @@
 -- What each way out of reading the value lines means for the bytes that weren't read before.
 use Rattle.std.proofs.Common.{◌≡◌, ℕ, ◌+◌, ◌-◌, ◌^◌, ◌<◌, ◌≤◌, ◌⊎◌, inl, inr, List, [], ◌∷◌, ◌++◌, length, length-append, take, refl, ap, sym, subst, ◌∙◌, Ok, Err, Some, None, IfSome, OnOk, OnErr, IfErr, true, arith}
-use Rattle.std.proofs.lemmas.List.{take_at}
 use Rattle.std.specs.Io.KnownBytes.{Consumes, IsAtEnd, Keeps, prepend_known}
 use Rattle.std.specs.declared.option.Option.{Option}
 use Rattle.std.specs.declared.result.Result.{Result}
@@ -8,14 +7,13 @@ use Rattle.larch_actions.specs.declared.event.Layout.{Layout}
 use Rattle.trace_core.specs.declared.line.Expect.TheVariants as expect
 use Rattle.exact_text.specs.declared.intake.Intake.{Intake}
 use Rattle.exact_text.specs.declared.fault.TextFault.{TextFault}
-use Rattle.exact_text.specs.declared.fault.TextFault.TheVariants.{Memory, BadLine, TooLong, Read}
-use Rattle.exact_text.specs.Prefixes.{Begins, first_lines, IsBrokenAt}
+use Rattle.exact_text.specs.Prefixes.{Begins, IsBrokenAt}
 use Rattle.exact_text.specs.Exact.{IsShown, HasReason, bytes_room}
-use Rattle.exact_text.specs.Intake.{IsFilled, IsAsked, rest_of, room_of}
+use Rattle.exact_text.specs.Intake.{IsAsked, rest_of, room_of}
 use Rattle.trace_core.specs.Steps.{IsEnding}
 use Rattle.trace_core.specs.Text.{MutexValue, IsValues, end_line, value_line}
 use Rattle.trace_core.specs.Lines.{IsSomeValues, IsPossible}
-use Rattle.exact_text.proofs.Stuck.{rose_since, kept_consumes, take_more_than}
+use Rattle.exact_text.proofs.Stuck.{take_more_than}
 use Rattle.exact_text.proofs.Grammar.{empty_prefix}
 use Rattle.exact_text.proofs.Texts.{bytes_before, left_reason}
 use Rattle.trace_core.proofs.LineLaws.{line_code}
