@@ -325,6 +325,7 @@ lines_in_all n (x ∷ xs) =
     )
 
 end_few : (x : Life) → to_end x ≤ 1
+end_few Unborn = omega arith
 end_few _ = omega arith
 
 rank_first : (l : Layout) (xs : List Line) → rank l xs (first_scene l.version) ≤ (2 * l.threads + 1) * (length xs + l.threads) + l.threads

@@ -49,6 +49,7 @@ AreOwn mine (x ∷ xs) = MayHave (use_of x.operation) mine × AreOwn (mine_with 
 
 -- lines that may come one after another are such for each thread
 use_mine : (h : Holding) (t : ℕ) (u : Use) → MayUse h t u → MayHave u (h t)
+use_mine h t (Takes m) may = may
 use_mine h t _ may = may
 
 mine_after : (h : Holding) (t : ℕ) (u : Use) → mine_with u (h t) ≡ holding_with h t u t

@@ -141,6 +141,7 @@ is_three (a ∷ b ∷ c ∷ []) x few (inr (inr (inr h))) = absurd h
 is_three (a ∷ b ∷ c ∷ d ∷ rest) x few (inr (inr (inr h))) = absurd (omega arith)
 
 pub choices_few : (o : Operation) → length (choices o) ≤ 3
+choices_few (Acquire m) = omega arith
 choices_few _ = omega arith
 
 gives_line : (v : Version) (x : Line) (rest : List Line) (c : Choice) → MayMake x.operation c → Gives v (x ∷ rest) c

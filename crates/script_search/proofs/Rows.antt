@@ -148,12 +148,15 @@ module _ (s : Spec) (t : ℕ) where
 
 -- the threads that a signal takes out
 inside-thin : (c : ℕ) (b : Bool) (k : ℕ) (p : Place) → is_inside k (thin_place c b p) ≡ cond (eqb k c) (cond b (is_inside c p) false) (is_inside k p)
+inside-thin c b k place.Unborn = grind (arith, nat_tests)
 inside-thin c b k _ = grind (arith, nat_tests)
 
 pending-thin : (c : ℕ) (b : Bool) (p : Place) → pending_of (thin_place c b p) ≡ pending_of p
+pending-thin c b place.Unborn = refl
 pending-thin c b _ = refl
 
 life-thin : (c : ℕ) (b : Bool) (p : Place) → life_of (thin_place c b p) ≡ life_of p
+life-thin c b place.Unborn = refl
 life-thin c b _ = refl
 
 low_or_high : (n m : ℕ) → (n < m) ⊎ (m ≤ n)

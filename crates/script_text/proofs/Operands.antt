@@ -17,6 +17,7 @@ prefix_flat Amount = tt
 prefix_flat Count = tt
 
 prefix_short : (k : Operand) → length (prefix_text k) ≤ 1
+prefix_short (Name k) = omega arith
 prefix_short _ = omega arith
 
 -- of three numbers at most two are taken

@@ -24,28 +24,16 @@ fit w f short few = record { flat = flat_from (word_text w) f; short = short; fe
 
 pub fits : (w : Word) → IsFit w
 fits word.Acquire = fit word.Acquire refl (omega arith) (omega arith)
-fits word.Release = fit word.Release refl (omega arith) (omega arith)
-fits word.Wait = fit word.Wait refl (omega arith) (omega arith)
-fits word.AlertWait = fit word.AlertWait refl (omega arith) (omega arith)
-fits word.Signal = fit word.Signal refl (omega arith) (omega arith)
-fits word.Broadcast = fit word.Broadcast refl (omega arith) (omega arith)
-fits word.P = fit word.P refl (omega arith) (omega arith)
-fits word.V = fit word.V refl (omega arith) (omega arith)
-fits word.Alert = fit word.Alert refl (omega arith) (omega arith)
-fits word.TestAlert = fit word.TestAlert refl (omega arith) (omega arith)
-fits word.AlertP = fit word.AlertP refl (omega arith) (omega arith)
-fits word.Add = fit word.Add refl (omega arith) (omega arith)
-fits word.Until = fit word.Until refl (omega arith) (omega arith)
-fits word.AlertUntil = fit word.AlertUntil refl (omega arith) (omega arith)
-fits word.Fork = fit word.Fork refl (omega arith) (omega arith)
-fits word.Join = fit word.Join refl (omega arith) (omega arith)
+fits a = fit a refl (omega arith) (omega arith)
 
 -- an operation is made of its word and its numbers
 pub built : (o : Operation) → o ≡ made (word_of o) (numbers_of o)
+built (Acquire m) = refl
 built _ = refl
 
 -- the operation that is made of a word has this word, and the numbers that stand after it
 pub made_word : (w : Word) (ns : List ℕ) → word_of (made w ns) ≡ w
+made_word word.Acquire ns = refl
 made_word _ ns = refl
 
 no_numbers : (ns : List ℕ) → length ns ≡ 0 → [] ≡ ns
@@ -102,6 +90,7 @@ abbrev pub IsThere : Word → Type 0
 IsThere w = (get_or words (place_of w) word.Acquire ≡ w) × (place_of w < length words)
 
 pub is_there : (w : Word) → IsThere w
+is_there word.Acquire = (refl, omega arith)
 is_there _ = (refl, omega arith)
 
 -- the mutex that is used is within the layout
@@ -127,4 +116,5 @@ first_small _ n h = (h, tt)
 
 -- an operation is made of the numbers that stand after its word alone
 pub made_first : (w : Word) (x : Numbers) → made w (first_of (kinds_of w) x) ≡ made w (listed x)
+made_first word.Acquire x = refl
 made_first _ x = refl
