@@ -85,7 +85,5 @@ refused_answers limit input out notes fault.Read status why still said = subst (
 refused_answers limit input out notes fault.Memory status why still said = subst (λ (s : Status). Answers limit input out notes (As s)) (sym said.0) (still, said.1)
 
 pub refused_reports : (input notes : Change) (f : TextFault) (status : Status) → SaysFault f notes status → (f ≢ fault.Read → input.now ≡ input.before) → ReportsFault input (As status)
-refused_reports input notes (fault.BadLine k) status said otherwise unread = otherwise (λ e. cc)
-refused_reports input notes fault.TooLong status said otherwise unread = otherwise (λ e. cc)
 refused_reports input notes fault.Read status said otherwise unread = absurd (unread (ap As said.0))
-refused_reports input notes fault.Memory status said otherwise unread = otherwise (λ e. cc)
+refused_reports input notes _ status said otherwise unread = otherwise (λ e. cc)

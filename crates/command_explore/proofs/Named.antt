@@ -72,19 +72,7 @@ module _ (l : Layout) (old : Spec) (t : ℕ) (low : t < l.threads) (below : AreB
     | inl g ↦ absurd (cc)
     | inr f ↦ below k u f
   ]
-  kept (action.Acquire m) choice k u h = below k u h
-  kept (action.Release m) choice k u h = below k u h
-  kept (action.Resume m c) choice k u h = below k u h
-  kept (action.AlertReturn m c) choice k u h = below k u h
-  kept (action.P s) choice k u h = below k u h
-  kept (action.V s) choice k u h = below k u h
-  kept (action.Alert who) choice k u h = below k u h
-  kept (action.TestAlert b) choice k u h = below k u h
-  kept (action.AlertPReturn s) choice k u h = below k u h
-  kept (action.AlertPRaise s) choice k u h = below k u h
-  kept (action.Fork who) choice k u h = below k u h
-  kept action.End choice k u h = below k u h
-  kept (action.Join who) choice k u h = below k u h
+  kept _ choice k u h = below k u h
 
 first_of : (k : ℕ) (ys : List Line) (x : Line) (rest : List Line) → drop k ys ≡ x ∷ rest → slice_get ys k ≡ Some x
 first_of zero [] x rest e = absurd (cc)

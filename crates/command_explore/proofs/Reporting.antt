@@ -22,10 +22,8 @@ life_is m t low x is = life_now m t low x ∙ ap (λ (y : Thread). life_of y.pla
 
 pub lives : (p : Place) → p ≢ place.Unborn → p ≢ place.Ended → life_of p ≡ life.Live
 lives place.Unborn u e = absurd (u refl)
-lives (place.Running) u e = refl
-lives (place.Waiting m c inside) u e = refl
-lives (place.AlertWaiting m c inside) u e = refl
 lives place.Ended u e = absurd (e refl)
+lives _ u e = refl
 
 -- a thread that has the line at the place i before it
 module _ (l : Layout) (xs : List Line) (numbers : List ℕ) (s : Scene) (t k i : ℕ) (played : k ≡ s.played t) where

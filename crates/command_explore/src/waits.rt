@@ -2,12 +2,12 @@
 ghost use Rattle.std.specs.Prelude.{◌≡◌, ◌≤◌, ◌<◌, ◌+◌, ◌++◌, length, vec_len, codes, decimal};
 ghost use lib.ListN.{get_or};
 ghost use Rattle.arrayvec.specs.ArrayString.{array_string_len};
-ghost use Rattle.script_search.specs.Boards.{moment_of, spec_of, holder_of, is_inside};
+ghost use Rattle.script_search.specs.Boards.{moment_of, spec_of, holder_of};
 ghost use Rattle.command_explore.specs.Waits.{at_text, holder_text, mutex_text, number_text, thread_text, wait_text, waits_text};
 
 use arrayvec::ArrayString;
 use larch_actions::{CondId, MutexId};
-use script_search::{Board, Place};
+use script_search::Board;
 use script_text::Operation;
 use text_output::push_with_number;
 
@@ -24,33 +24,6 @@ fn holder(board: &Board, mutex: MutexId) -> Option<u32>
     } else {
         None
     }
-}
-
-// Whether a thread there is in the condition.
-fn is_inside(place: Place, cond: u32) -> bool
-    ensures { result ≡ is_inside cond place }
-{
-    match place {
-        Place::Waiting {
-            cond: own,
-            inside,
-            ..
-        } => cond == own && inside,
-        Place::AlertWaiting {
-            cond: own,
-            inside,
-            ..
-        } => cond == own && inside,
-        _ => false,
-    }
-}
-
-// Whether the thread is in the condition.
-fn is_in(board: &Board, cond: CondId, thread: u32) -> bool
-    requires { thread < vec_len board.now.threads }
-    ensures { result ≡ (spec_of (moment_of board.now)).members cond.0 thread }
-{
-    is_inside(board.threads[thread as usize].place, cond.0)
 }
 
 // The number of the mutex.
@@ -104,7 +77,7 @@ fn push_wait(text: &mut Text, board: &Board, thread: u32, mutex: MutexId, cond: 
     ensures bytes { text.new.bytes ≡ text.old.bytes ++ wait_text (spec_of (moment_of board.now)) thread mutex.0 cond.0 more.now }
     ensures len { array_string_len text.new ≤ 250 }
 {
-    if is_in(board, cond, thread) {
+    if board.is_inside(cond.0, thread) {
         push_inside(text, mutex, cond, more);
     } else {
         push_with_number(text, " is out of c", cond.0 as u64);

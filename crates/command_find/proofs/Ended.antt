@@ -41,16 +41,12 @@ refused most tree input out notes status fault.Memory why still h = ended most t
 -- the query was read
 pub answered : (words tokens : List Token) (most : ℕ) (tree : Tree) (input out notes : Change) (status : Status) → Asks words most tokens
     → IsReading tokens tree → EndsBy most tree input out notes status → FindAnswers words input out notes status
-answered words tokens most tree input out notes Done asks reading h = (most, tokens, tree, asks, reading, h)
-answered words tokens most tree input out notes SinkFault asks reading h = (most, tokens, tree, asks, reading, h)
-answered words tokens most tree input out notes BadText asks reading h = (most, tokens, tree, asks, reading, h)
-answered words tokens most tree input out notes TooLong asks reading h = (most, tokens, tree, asks, reading, h)
-answered words tokens most tree input out notes ReadFault asks reading h = (most, tokens, tree, asks, reading, h)
 answered words tokens most tree input out notes Memory asks reading h = h
 answered words tokens most tree input out notes Usage asks reading h = absurd h
 answered words tokens most tree input out notes Stopped asks reading h = absurd h
 answered words tokens most tree input out notes Illegal asks reading h = absurd h
 answered words tokens most tree input out notes TooMany asks reading h = absurd h
+answered words tokens most tree input out notes _ asks reading h = (most, tokens, tree, asks, reading, h)
 
 pub answers_so : (words : List Token) (input out notes : Change) (status s : Status) → status ≡ s → FindAnswers words input out notes s → FindAnswers words input out notes status
 answers_so words input out notes status s e h = subst (λ (x : Status). FindAnswers words input out notes x) (sym e) h

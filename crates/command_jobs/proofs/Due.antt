@@ -76,6 +76,4 @@ module _ (input : Change) (bytes : List ℕ) (reported : input.old ≡ Some byte
   decided out notes TooLong due h m r g = inl (due_long bytes due (at_bytes (λ b. IsTooLong IsJobs (lines_room most_lines b) b) h.0) g)
   decided out notes Memory due h m r g = absurd (m refl)
   decided out notes ReadFault due h m r g = absurd (r refl)
-  decided out notes Usage due h m r g = absurd h
-  decided out notes Illegal due h m r g = absurd h
-  decided out notes TooMany due h m r g = absurd h
+  decided out notes _ due h m r g = absurd h

@@ -5,13 +5,13 @@ use Rattle.std.specs.declared.option.Option.{Option}
 use Rattle.exact_text.specs.declared.fault.TextFault.{TextFault}
 use Rattle.exact_text.specs.declared.fault.TextFault.TheVariants as fault
 use Rattle.exact_text.specs.Exact.{OrMemory, IsShown, IsTooLong, lines_room}
-use Rattle.exact_text.proofs.CodeLaws.{ok_injective}
+use Rattle.exact_text.proofs.CodeLaws.{read_same}
 use Rattle.exact_text.proofs.Grammar.{line_some}
 use Rattle.exact_text.proofs.LinesOf.{within_lines}
 use Rattle.exact_text.proofs.Shown.{one_answer}
 use Rattle.command_jobs.specs.declared.job_line.JobLine.{JobLine}
 use Rattle.command_jobs.specs.JobLines.{IsJobs, IsLawful, line_text, ReadsAs, most_lines, IsDecided}
-use Rattle.command_jobs.specs.JobReading.{job_at, job_code, job_is_line, some_job}
+use Rattle.command_jobs.specs.JobReading.{job_code, job_is_line}
 
 same_lines : (xs ys : List JobLine) → AllByRecursion IsLawful xs → AllByRecursion IsLawful ys → flat_map line_text xs ≡ flat_map line_text ys → xs ≡ ys
 same_lines [] [] p q e = refl
@@ -22,9 +22,9 @@ same_lines (x ∷ xs) [] p q e =
     let some = line_some (line_text x) (job_is_line x p.0).0 in
     absurd (omega (arith, ap length e, some, length-append (line_text x) (flat_map line_text xs)))
 same_lines (x ∷ xs) (y ∷ ys) p q e =
-    let read : (x, flat_map line_text xs) ≡ (y, flat_map line_text ys) = ok_injective (sym (job_code.again x (flat_map line_text xs) p.0) ∙ ap job_at e ∙ job_code.again y (flat_map line_text ys) q.0) in
-    let first : x ≡ y = ap (λ r. r.0) read in
-    let rest = same_lines xs ys p.1 q.1 (ap (λ r. r.1) read) in
+    let first = read_same job_code x y (flat_map line_text xs) (flat_map line_text ys) p.0 q.0 e in
+    let same = first.0 in
+    let rest = same_lines xs ys p.1 q.1 first.1 in
     cc
 
 pub is_decided : IsDecided
@@ -37,7 +37,7 @@ module _ (input : List ℕ) (lines : List JobLine) (text : ReadsAs input lines) 
   -- a text of few enough lines may be read whole
   within : length input ≤ lines_room most_lines input
   within =
-      let w = within_lines job_code (λ x h. (job_is_line x h).0) some_job lines most_lines text.lawful few in
+      let w = within_lines job_code (λ x h. (job_is_line x h).0) lines most_lines text.lawful few in
       let P : List ℕ → Type 0 = λ l. length l ≤ lines_room most_lines l in subst P (sym text.text) w
 
   pub text_or_bad : (k : ℕ) → IsShown IsJobs (lines_room most_lines input) input k → ⊥
@@ -49,10 +49,3 @@ module _ (input : List ℕ) (lines : List JobLine) (text : ReadsAs input lines) 
 pub read_as : (r : Option (List ℕ)) (xs : List JobLine) → AllByRecursion IsLawful xs → IfSome r (λ bytes. bytes ≡ flat_map line_text xs) → IfSome r (λ bytes. ReadsAs bytes xs)
 read_as None xs all h = tt
 read_as (Some bytes) xs all h = record { lawful = all; text = h }
-
--- a reason of a reader that takes no memory
-pub or_memory : (Reason : TextFault → Type 0) (f : TextFault) → Reason f → OrMemory Reason f
-or_memory Reason fault.Memory h = tt
-or_memory Reason (fault.BadLine k) h = h
-or_memory Reason fault.TooLong h = h
-or_memory Reason fault.Read h = h

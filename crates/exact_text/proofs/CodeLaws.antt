@@ -18,6 +18,13 @@ bind_err (Err t) f s e = inl (cc)
 pub ok_injective : {A : Type 0} {x y : A} → (let a : Result A Stop = Ok x in a) ≡ Ok y → x ≡ y
 ok_injective e = cc
 
+-- bytes begin with one value's text, and the rest of them is one
+pub read_same : {X : Type 0} {lawful : X → Type 0} {text : X → List ℕ} {read : List ℕ → Result (X × List ℕ) Stop} → IsCode lawful text read
+    → (x y : X) (a b : List ℕ) → lawful x → lawful y → text x ++ a ≡ text y ++ b → (x ≡ y) × (a ≡ b)
+read_same {X} {lawful} {text} {read} code x y a b l m e =
+    let same : (let p : X × List ℕ = (x, a) in p) ≡ (y, b) = ok_injective (sym (code.again x a l) ∙ ap read e ∙ code.again y b m) in
+    (ap (λ (p : X × List ℕ). p.0) same, ap (λ (p : X × List ℕ). p.1) same)
+
 -- what was read stays read, however the bytes go on
 pub stays : {X : Type 0} {lawful : X → Type 0} {text : X → List ℕ} {read : List ℕ → Result (X × List ℕ) Stop} → IsCode lawful text read
     → (bytes rest more : List ℕ) (x : X) → read bytes ≡ Ok (x, rest) → read (bytes ++ more) ≡ Ok (x, rest ++ more)

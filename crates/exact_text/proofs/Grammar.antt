@@ -7,7 +7,7 @@ use Rattle.exact_text.specs.declared.stop.Stop.{Stop}
 use Rattle.exact_text.specs.declared.stop.Stop.TheVariants.{More, Dead}
 use Rattle.exact_text.specs.Codes.{IsCode}
 use Rattle.exact_text.specs.Prefixes.{Begins, first_lines, newlines, IsBrokenAt, IsCutShortAt, IsFlat, IsLine}
-use Rattle.exact_text.specs.Unfolds.{Unfolds}
+use Rattle.exact_text.specs.Unfolds.{IsLineAnd, Unfolds}
 use Rattle.exact_text.proofs.CodeLaws.{stays, ok_injective}
 
 pub IsFlat-append : (xs ys : List ℕ) → IsFlat xs → IsFlat ys → IsFlat (xs ++ ys)
@@ -84,6 +84,15 @@ pub newlines-line : (line rest : List ℕ) → IsLine line → newlines (line ++
 newlines-line line rest l =
     ap newlines (ap (λ x. x ++ rest) l.2 ∙ append_assoc l.0 (10 ∷ []) rest) ∙ newlines-body l.0 rest l.1
 
+pub line_grammar : {X : Type 0} {lawful : X → Type 0} {text : X → List ℕ} {Next : X → List ℕ → Type 0} → ((x : X) → lawful x → (rest : List ℕ) × Next x rest) → (x : X) × lawful x → ((x : X) → lawful x → IsLine (text x)) → Unfolds (IsLineAnd lawful text Next) lawful text Next
+line_grammar goes_on some lines = record {
+  opens = λ bytes t. t;
+  closes = λ x rest l n. (x, rest, l, n, refl);
+  goes_on = goes_on;
+  some = some;
+  lines = lines;
+}
+
 module _ {X : Type 0} {Text : List ℕ → Type 0} {lawful : X → Type 0} {text : X → List ℕ} {Next : X → List ℕ → Type 0} {read : List ℕ → Result (X × List ℕ) Stop} (grammar : Unfolds Text lawful text Next) (code : IsCode lawful text read) where
   -- what begins with another line is no text
   pub no_text : (bytes more : List ℕ) → read bytes ≡ Err Dead → Text (bytes ++ more) → ⊥
@@ -92,9 +101,6 @@ module _ {X : Type 0} {Text : List ℕ → Type 0} {lawful : X → Type 0} {text
       let d = code.dead bytes more e in
       let a = ap read o.4 ∙ code.again o.0 o.1 o.2 in
       absurd (cc)
-
-  pub no_prefix : (bytes : List ℕ) → read bytes ≡ Err Dead → Begins Text bytes → ⊥
-  no_prefix bytes e b = no_text bytes b.0 e b.1
 
   pub prefix : (bytes : List ℕ) → read bytes ≡ Err More → Begins Text bytes
   prefix bytes e =

@@ -8,6 +8,7 @@ pub mod Filled
 pub mod Grammar
 pub mod Flat
 pub mod Stuck
-pub mod Texts
+pub mod Reaches
 pub mod Shown
+pub mod Texts
 pub mod LinesOf

@@ -1,5 +1,5 @@
 -- What each way out of reading a line means for the bytes that weren't read before.
-use Rattle.std.proofs.Common.{◌≡◌, ℕ, ◌+◌, ◌-◌, ◌<◌, ◌≤◌, inl, inr, List, ◌++◌, length, length-append, take, refl, ap, sym, ◌∙◌, append_assoc, append-nil, Ok, Err, Some, None, IfSome, arith}
+use Rattle.std.proofs.Common.{◌≡◌, ℕ, ◌+◌, ◌-◌, ◌<◌, ◌≤◌, inl, inr, List, [], ◌++◌, length, length-append, take, refl, ap, sym, ◌∙◌, append_assoc, append-nil, Ok, Err, Some, None, IfSome, arith}
 use Rattle.std.proofs.lemmas.List.{take_at}
 use Rattle.std.proofs.Math.Seq.{take-append-add}
 use Rattle.std.specs.Io.KnownBytes.{Consumes, IsAtEnd, Keeps, prepend_known}
@@ -42,6 +42,44 @@ kept_consumes None left left' w k same = tt
 kept_consumes (Some xs) None left' w k same = absurd k
 kept_consumes (Some xs) (Some ys) None w k same = absurd same
 kept_consumes (Some xs) (Some ys) (Some zs) w k same = sym k ∙ ap (λ l. w ++ l) (sym same)
+
+pub kept_none : (r s : Option (List ℕ)) → Keeps r s → Consumes r s []
+kept_none None s k = tt
+kept_none (Some xs) None k = k
+kept_none (Some xs) (Some ys) k = sym k
+
+-- nothing was read
+pub consumes_none : (r : Option (List ℕ)) (text : List ℕ) → text ≡ [] → Consumes r r text
+consumes_none None text e = tt
+consumes_none (Some xs) text e = ap (λ l. l ++ xs) (sym e)
+
+pub Consumes-split : (a c : Option (List ℕ)) (xs ys : List ℕ) → Consumes a c (xs ++ ys) → (b : Option (List ℕ)) × Consumes a b xs × Consumes b c ys
+Consumes-split None c xs ys h = (None, tt, tt)
+Consumes-split (Some x) None xs ys h = absurd h
+Consumes-split (Some x) (Some z) xs ys h = (Some (ys ++ z), h ∙ append_assoc xs ys z, refl)
+
+-- a byte that is held is left
+pub some_left : (r left : Option (List ℕ)) (w : List ℕ) → Keeps r (prepend_known w left) → 0 < length w → IfSome r (λ input. 0 < length input)
+some_left None left w k some = tt
+some_left (Some xs) None w k some = absurd k
+some_left (Some xs) (Some ys) w k some = omega (arith, ap length k, length-append w ys)
+
+-- where nothing is held, what is left is what the source gives
+pub nothing_held : (w : List ℕ) (r : Option (List ℕ)) → w ≡ [] → prepend_known w r ≡ r
+nothing_held w None e = refl
+nothing_held w (Some xs) e = ap (λ l. Some (l ++ xs)) e
+
+-- the end of the input is all that is left
+pub nothing_left : (left left' : Option (List ℕ)) (w : List ℕ) → w ≡ [] → Keeps left left' → IsAtEnd left' → IfSome (prepend_known w left) (λ bytes. bytes ≡ [])
+nothing_left None left' w e k end = tt
+nothing_left (Some xs) None w e k end = absurd k
+nothing_left (Some xs) (Some ys) w e k end = ap (λ l. l ++ xs) e ∙ sym k ∙ end
+
+-- the text, and then all that was left
+pub all_read : (r rest : Option (List ℕ)) (text tail whole : List ℕ) → Consumes r rest text → IfSome rest (λ bytes. bytes ≡ tail) → text ++ tail ≡ whole → IfSome r (λ bytes. bytes ≡ whole)
+all_read None rest text tail whole c h e = tt
+all_read (Some a) None text tail whole c h e = absurd c
+all_read (Some a) (Some b) text tail whole c h e = c ∙ ap (λ l. text ++ l) h ∙ e
 
 pub for_some : {P Q : List ℕ → Type 0} (r : Option (List ℕ)) → ((xs : List ℕ) → P xs → Q xs) → IfSome r P → IfSome r Q
 for_some None f h = tt

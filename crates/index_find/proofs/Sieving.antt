@@ -1,5 +1,5 @@
 -- What a sieve keeps as it is offered more.
-use Rattle.std.proofs.Common.{◌≡◌, ◌⊎◌, ℕ, ◌<◌, ◌-◌, Bool, true, false, List, [], ◌∷◌, ◌++◌, length, get_or, slice_get, Some, None, Result, Ok, Err, OnOk, IfOk, arith, refl, sym, ap, subst, ◌∙◌, ⊎_elim, inl, inr}
+use Rattle.std.proofs.Common.{◌≡◌, ◌⊎◌, ℕ, ◌<◌, ◌-◌, Bool, true, false, List, [], ◌∷◌, ◌++◌, length, get_or, slice_get, Some, None, arith, refl, sym, ap, subst, ◌∙◌, ⊎_elim, inl, inr}
 use Rattle.std.specs.List.{Contains}
 use Rattle.std.proofs.lemmas.Bool.{false≢true}
 use Rattle.std.proofs.lemmas.Option.{slice_get-get_or}
@@ -9,10 +9,10 @@ use Rattle.std.proofs.lemmas.List.Quantifiers.{all_pairs_push}
 use Rattle.word_index.specs.Index.{Hit, Row, IsBelow, IsRising}
 use Rattle.word_index.proofs.Images.{to_map, from_map}
 use Rattle.index_table.specs.Rows.{Drafted, AreOrdered, HasPath, IsAmong, paths_of, words_of}
-use Rattle.index_text.specs.Offered.{Offered, nothing, with_word, with_hit, with_end, with_skipped, last_word, last_path, last_skipped}
+use Rattle.index_text.specs.Offered.{Offered, with_hit, with_end, with_skipped, last_word, last_path, last_skipped}
 use Rattle.index_find.specs.Asked.{asks_for, negates}
 use Rattle.index_find.specs.Kept.{KeepsHit, KeepsRow}
-use Rattle.index_find.specs.Sieved.{IsSomeOf, Keeps, Serves}
+use Rattle.index_find.specs.Sieved.{IsSomeOf, KeepsRows, KeepsHits, Serves}
 use Rattle.index_find.specs.declared.query.Step.{Step}
 
 no_element : {X : Type 0} (x : X) (C : Type 0) → Contains [] x → C
@@ -79,167 +79,132 @@ path_cases rs r p has = ⊎_elim
 path_left : (rs : List Row) (r : Row) (p : List ℕ) → HasPath rs p → HasPath (rs ++ r ∷ []) p
 path_left rs r p has = (has.0, Contains-append_left rs (r ∷ []) has.0 has.1, has.2)
 
-pub keeps_none : (steps : List Step) → Keeps steps (record { rows = []; hits = []; skipped = [] }) nothing
-keeps_none steps = record {
-  wanted = λ row has _. has;
-  wanted_hits = λ _. refl;
-  paths = λ _ p has. has;
-  paths_here = λ _ h has. no_element h (IsAmong (record { rows = []; hits = []; skipped = [] }) h.path) has;
-  rows = λ row has. no_element row ((other : Row) × Contains [] other × IsSomeOf row other) has;
-  hits = λ h has. has;
-  ordered = λ o. o;
-  rising = λ r. r;
+-- where no hit was offered yet, and none is kept
+pub no_hits : (steps : List Step) (d : Drafted) (w : List ℕ) → d.hits ≡ [] → KeepsHits steps d w []
+no_hits steps d w none = record {
+  wanted = λ _. none;
+  paths = λ every h has. no_element h (IsAmong d h.path) has;
+  hits = λ h has. subst (λ (l : List Hit). Contains l h) none has;
+  rising = λ r. subst (λ (l : List Hit). IsRising (paths_of l)) (sym none) r;
 }
 
-module _ {steps : List Step} {d : Drafted} {t : Offered} (k : Keeps steps d t) where
-  pub keeps_word : (w : List ℕ) → t.hits ≡ [] → Keeps steps d (with_word w t)
-  keeps_word w none = record {
-    wanted = k.wanted;
-    wanted_hits = λ _. none_kept d.hits t.hits k.hits none ∙ sym none;
-    paths = k.paths;
-    paths_here = k.paths_here;
-    rows = k.rows;
-    hits = k.hits;
-    ordered = k.ordered;
-    rising = k.rising;
-  }
+pub no_rows : (steps : List Step) → KeepsRows steps [] []
+no_rows steps = record {
+  wanted = λ row has _. has;
+  paths = λ _ p has. has;
+  rows = λ row has. no_element row ((other : Row) × Contains [] other × IsSomeOf row other) has;
+  ordered = λ o. o;
+}
 
-  pub keeps_skipped : (p : List ℕ) → Keeps steps d (with_skipped p t)
-  keeps_skipped p = record {
-    wanted = k.wanted;
-    wanted_hits = k.wanted_hits;
-    paths = k.paths;
-    paths_here = k.paths_here;
-    rows = k.rows;
-    hits = k.hits;
-    ordered = k.ordered;
-    rising = k.rising;
-  }
+pub same_rows : (wanted every : Bool) (d new : Drafted) (h : Hit) → KeepsHit wanted every d h new → new.rows ≡ d.rows
+same_rows wanted every d new h (inl more) = ap (λ (e : Drafted). e.rows) more
+same_rows wanted every d new h (inr same) = ap (λ (e : Drafted). e.rows) same.2
+
+module _ {steps : List Step} {d : Drafted} {word : List ℕ} {hits : List Hit} (k : KeepsHits steps d word hits) where
+  pub hits_word : (w : List ℕ) → hits ≡ [] → KeepsHits steps d w hits
+  hits_word w none = subst (λ (l : List Hit). KeepsHits steps d w l) (sym none) (no_hits steps d w (none_kept d.hits hits k.hits none))
 
   -- a hit that isn't kept
-  pub passes_hit : (h : Hit) → asks_for t.word steps ≡ false → (negates steps ≡ true → IsAmong d h.path) → Keeps steps d (with_hit h t)
+  passes_hit : (h : Hit) → asks_for word steps ≡ false → (negates steps ≡ true → IsAmong d h.path) → KeepsHits steps d word (hits ++ h ∷ [])
   passes_hit h unwanted there = record {
-    wanted = k.wanted;
-    wanted_hits = λ asked. absurd (false≢true (sym unwanted ∙ asked));
-    paths = k.paths;
-    paths_here = λ every g has. ⊎_elim
-        (λ (old : Contains t.hits g). k.paths_here every g old)
+    wanted = λ asked. absurd (false≢true (sym unwanted ∙ asked));
+    paths = λ every g has. ⊎_elim
+        (λ (old : Contains hits g). k.paths every g old)
         (λ (same : h ≡ g). subst (λ (x : Hit). IsAmong d x.path) same (there every))
-        (Contains-push_cases t.hits h g has);
-    rows = k.rows;
-    hits = λ g has. Contains-append_left t.hits (h ∷ []) g (k.hits g has);
-    ordered = k.ordered;
-    rising = λ r. k.rising (rising_front (paths_of t.hits) h.path (subst IsRising (paths_push t.hits h) r));
+        (Contains-push_cases hits h g has);
+    hits = λ g has. Contains-append_left hits (h ∷ []) g (k.hits g has);
+    rising = λ r. k.rising (rising_front (paths_of hits) h.path (subst IsRising (paths_push hits h) r));
   }
 
-  hit_more : (h : Hit) → Keeps steps (record d { hits = d.hits ++ h ∷ [] }) (with_hit h t)
+  hit_more : (h : Hit) → KeepsHits steps (record d { hits = d.hits ++ h ∷ [] }) word (hits ++ h ∷ [])
   hit_more h = record {
-    wanted = k.wanted;
-    wanted_hits = λ asked. ap (λ (l : List Hit). l ++ h ∷ []) (k.wanted_hits asked);
-    paths = k.paths;
-    paths_here = λ every g has. ⊎_elim
-        (λ (old : Contains t.hits g). ⊎_elim
+    wanted = λ asked. ap (λ (l : List Hit). l ++ h ∷ []) (k.wanted asked);
+    paths = λ every g has. ⊎_elim
+        (λ (old : Contains hits g). ⊎_elim
         (λ (row : HasPath d.rows g.path). inl row)
         (λ (here : Contains (paths_of d.hits) g.path). inr (subst (λ (l : List (List ℕ)). Contains l g.path) (sym (paths_push d.hits h)) (Contains-append_left (paths_of d.hits) (h.path ∷ []) g.path here)))
-        (k.paths_here every g old))
+        (k.paths every g old))
         (λ (same : h ≡ g). inr (to_map path (d.hits ++ h ∷ []) g (subst (Contains (d.hits ++ h ∷ [])) same (Contains-push d.hits h))))
-        (Contains-push_cases t.hits h g has);
-    rows = k.rows;
+        (Contains-push_cases hits h g has);
     hits = λ g has. ⊎_elim
-        (λ (old : Contains d.hits g). Contains-append_left t.hits (h ∷ []) g (k.hits g old))
-        (λ (same : h ≡ g). subst (Contains (t.hits ++ h ∷ [])) same (Contains-push t.hits h))
+        (λ (old : Contains d.hits g). Contains-append_left hits (h ∷ []) g (k.hits g old))
+        (λ (same : h ≡ g). subst (Contains (hits ++ h ∷ [])) same (Contains-push hits h))
         (Contains-push_cases d.hits h g has);
-    ordered = k.ordered;
-    rising = λ r. subst IsRising (sym (paths_push d.hits h)) (sifted (paths_of d.hits) (paths_of t.hits) h.path (paths_among d.hits t.hits k.hits) k.rising (subst IsRising (paths_push t.hits h) r));
+    rising = λ r. subst IsRising (sym (paths_push d.hits h)) (sifted (paths_of d.hits) (paths_of hits) h.path (paths_among d.hits hits k.hits) k.rising (subst IsRising (paths_push hits h) r));
   }
 
-  pub keeps_hit : (wanted every : Bool) (h : Hit) (new : Drafted) → wanted ≡ asks_for t.word steps → every ≡ negates steps → KeepsHit wanted every d h new → Keeps steps new (with_hit h t)
-  keeps_hit wanted every h new is all (inl more) = subst (λ (e : Drafted). Keeps steps e (with_hit h t)) (sym more) (hit_more h)
-  keeps_hit wanted every h new is all (inr same) = subst (λ (e : Drafted). Keeps steps e (with_hit h t)) (sym same.2) (passes_hit h (sym is ∙ same.0) (λ e. same.1 (all ∙ e)))
+  pub hits_push : (wanted every : Bool) (h : Hit) (new : Drafted) → wanted ≡ asks_for word steps → every ≡ negates steps → KeepsHit wanted every d h new → KeepsHits steps new word (hits ++ h ∷ [])
+  hits_push wanted every h new is all (inl more) = subst (λ (e : Drafted). KeepsHits steps e word (hits ++ h ∷ [])) (sym more) (hit_more h)
+  hits_push wanted every h new is all (inr same) = subst (λ (e : Drafted). KeepsHits steps e word (hits ++ h ∷ [])) (sym same.2) (passes_hit h (sym is ∙ same.0) (λ e. same.1 (all ∙ e)))
 
   abbrev offered_row : Row
-  offered_row = record { word = t.word; hits = t.hits }
+  offered_row = record { word = word; hits = hits }
 
   abbrev kept_row : List ℕ → Row
   kept_row w = record { word = w; hits = d.hits }
 
   -- a path of the row that ended
-  path_here : negates steps ≡ true → (p : List ℕ) → Contains (paths_of t.hits) p → IsAmong d p
-  path_here every p has = let n = from_map path t.hits p has in subst (IsAmong d) n.2 (k.paths_here every n.0 n.1)
+  path_here : negates steps ≡ true → (p : List ℕ) → Contains (paths_of hits) p → IsAmong d p
+  path_here every p has = let n = from_map path hits p has in subst (IsAmong d) n.2 (k.paths every n.0 n.1)
 
-  row_more : (w : List ℕ) → w ≡ t.word → Keeps steps (record { rows = d.rows ++ kept_row w ∷ []; hits = []; skipped = d.skipped }) (with_end t)
-  row_more w is = record {
-    wanted = λ row has asked. ⊎_elim
-        (λ (old : Contains t.rows row). Contains-append_left d.rows (kept_row w ∷ []) row (k.wanted row old asked))
-        (λ (same : offered_row ≡ row).
-        let here : asks_for t.word steps ≡ true = ap (λ (r : Row). asks_for r.word steps) same ∙ asked in
-        let rows : kept_row w ≡ offered_row = λ i. record { word = is i; hits = k.wanted_hits here i } in
-        subst (Contains (d.rows ++ kept_row w ∷ [])) (rows ∙ same) (Contains-push d.rows (kept_row w)))
-        (Contains-push_cases t.rows offered_row row has);
-    wanted_hits = λ _. refl;
-    paths = λ every p has. ⊎_elim
-        (λ (old : HasPath t.rows p). path_left d.rows (kept_row w) p (k.paths every p old))
-        (λ (here : Contains (paths_of t.hits) p). ⊎_elim
-        (λ (row : HasPath d.rows p). path_left d.rows (kept_row w) p row)
-        (λ (kept : Contains (paths_of d.hits) p). (kept_row w, Contains-push d.rows (kept_row w), kept))
-        (path_here every p here))
-        (path_cases t.rows offered_row p has);
-    paths_here = λ every h has. no_element h (IsAmong (record { rows = d.rows ++ kept_row w ∷ []; hits = []; skipped = d.skipped }) h.path) has;
-    rows = λ row has. ⊎_elim
-        (λ (old : Contains d.rows row). let s = k.rows row old in (s.0, Contains-append_left t.rows (offered_row ∷ []) s.0 s.1, s.2))
-        (λ (same : kept_row w ≡ row). (offered_row, Contains-push t.rows offered_row, subst (λ (r : Row). IsSomeOf r offered_row) same (record { word = is; hits = k.hits })))
-        (Contains-push_cases d.rows (kept_row w) row has);
-    hits = λ h has. has;
-    ordered = λ o. record {
-      words = subst IsRising (sym (words_push d.rows (kept_row w))) (subst (λ (v : List ℕ). IsRising (words_of d.rows ++ v ∷ [])) (sym is)
-          (sifted (words_of d.rows) (words_of t.rows) t.word (words_among d.rows t.rows k.rows) (λ _. (k.ordered (ordered_front t.rows offered_row o)).words) (subst IsRising (words_push t.rows offered_row) o.words)));
-      hits = All-push (λ (r : Row). IsRising (paths_of r.hits)) d.rows (kept_row w) (k.ordered (ordered_front t.rows offered_row o)).hits (k.rising (last_rises t.rows offered_row o));
-    };
-    rising = λ r. r;
-  }
+  module _ {rows : List Row} (r : KeepsRows steps d.rows rows) where
+    row_more : (w : List ℕ) → w ≡ word → KeepsRows steps (d.rows ++ kept_row w ∷ []) (rows ++ offered_row ∷ [])
+    row_more w is = record {
+      wanted = λ row has asked. ⊎_elim
+          (λ (old : Contains rows row). Contains-append_left d.rows (kept_row w ∷ []) row (r.wanted row old asked))
+          (λ (same : offered_row ≡ row).
+          let here : asks_for word steps ≡ true = ap (λ (r : Row). asks_for r.word steps) same ∙ asked in
+          let both : kept_row w ≡ offered_row = λ i. record { word = is i; hits = k.wanted here i } in
+          subst (Contains (d.rows ++ kept_row w ∷ [])) (both ∙ same) (Contains-push d.rows (kept_row w)))
+          (Contains-push_cases rows offered_row row has);
+      paths = λ every p has. ⊎_elim
+          (λ (old : HasPath rows p). path_left d.rows (kept_row w) p (r.paths every p old))
+          (λ (here : Contains (paths_of hits) p). ⊎_elim
+          (λ (row : HasPath d.rows p). path_left d.rows (kept_row w) p row)
+          (λ (kept : Contains (paths_of d.hits) p). (kept_row w, Contains-push d.rows (kept_row w), kept))
+          (path_here every p here))
+          (path_cases rows offered_row p has);
+      rows = λ row has. ⊎_elim
+          (λ (old : Contains d.rows row). let s = r.rows row old in (s.0, Contains-append_left rows (offered_row ∷ []) s.0 s.1, s.2))
+          (λ (same : kept_row w ≡ row). (offered_row, Contains-push rows offered_row, subst (λ (r : Row). IsSomeOf r offered_row) same (record { word = is; hits = k.hits })))
+          (Contains-push_cases d.rows (kept_row w) row has);
+      ordered = λ o. record {
+        words = subst IsRising (sym (words_push d.rows (kept_row w))) (subst (λ (v : List ℕ). IsRising (words_of d.rows ++ v ∷ [])) (sym is)
+            (sifted (words_of d.rows) (words_of rows) word (words_among d.rows rows r.rows) (λ _. (r.ordered (ordered_front rows offered_row o)).words) (subst IsRising (words_push rows offered_row) o.words)));
+        hits = All-push (λ (r : Row). IsRising (paths_of r.hits)) d.rows (kept_row w) (r.ordered (ordered_front rows offered_row o)).hits (k.rising (last_rises rows offered_row o));
+      };
+    }
 
-  row_less : asks_for t.word steps ≡ false → d.hits ≡ [] → Keeps steps d (with_end t)
-  row_less unwanted none = record {
-    wanted = λ row has asked. ⊎_elim
-        (λ (old : Contains t.rows row). k.wanted row old asked)
-        (λ (same : offered_row ≡ row). absurd (false≢true (sym unwanted ∙ ap (λ (r : Row). asks_for r.word steps) same ∙ asked)))
-        (Contains-push_cases t.rows offered_row row has);
-    wanted_hits = λ _. none;
-    paths = λ every p has. ⊎_elim
-        (λ (old : HasPath t.rows p). k.paths every p old)
-        (λ (here : Contains (paths_of t.hits) p). ⊎_elim
-        (λ (row : HasPath d.rows p). row)
-        (λ (kept : Contains (paths_of d.hits) p). no_element p (HasPath d.rows p) (subst (λ (l : List Hit). Contains (paths_of l) p) none kept))
-        (path_here every p here))
-        (path_cases t.rows offered_row p has);
-    paths_here = λ every h has. no_element h (IsAmong d h.path) has;
-    rows = λ row has. let s = k.rows row has in (s.0, Contains-append_left t.rows (offered_row ∷ []) s.0 s.1, s.2);
-    hits = λ h has. subst (λ (l : List Hit). Contains l h) none has;
-    ordered = λ o. k.ordered (ordered_front t.rows offered_row o);
-    rising = λ r. subst (λ (l : List Hit). IsRising (paths_of l)) (sym none) r;
-  }
+    row_less : asks_for word steps ≡ false → d.hits ≡ [] → KeepsRows steps d.rows (rows ++ offered_row ∷ [])
+    row_less unwanted none = record {
+      wanted = λ row has asked. ⊎_elim
+          (λ (old : Contains rows row). r.wanted row old asked)
+          (λ (same : offered_row ≡ row). absurd (false≢true (sym unwanted ∙ ap (λ (r : Row). asks_for r.word steps) same ∙ asked)))
+          (Contains-push_cases rows offered_row row has);
+      paths = λ every p has. ⊎_elim
+          (λ (old : HasPath rows p). r.paths every p old)
+          (λ (here : Contains (paths_of hits) p). ⊎_elim
+          (λ (row : HasPath d.rows p). row)
+          (λ (kept : Contains (paths_of d.hits) p). no_element p (HasPath d.rows p) (subst (λ (l : List Hit). Contains (paths_of l) p) none kept))
+          (path_here every p here))
+          (path_cases rows offered_row p has);
+      rows = λ row has. let s = r.rows row has in (s.0, Contains-append_left rows (offered_row ∷ []) s.0 s.1, s.2);
+      ordered = λ o. r.ordered (ordered_front rows offered_row o);
+    }
 
-  pub keeps_row : (wanted : Bool) (w : List ℕ) (new : Drafted) → wanted ≡ asks_for t.word steps → w ≡ t.word → KeepsRow wanted d w new → Keeps steps new (with_end t)
-  keeps_row wanted w new is same (inl more) = subst (λ (e : Drafted). Keeps steps e (with_end t)) (sym more) (row_more w same)
-  keeps_row wanted w new is same (inr less) = subst (λ (e : Drafted). Keeps steps e (with_end t)) (sym less.2) (row_less (sym is ∙ less.0) less.1)
+    pub rows_push : (wanted : Bool) (w : List ℕ) (new : Drafted) → wanted ≡ asks_for word steps → w ≡ word → KeepsRow wanted d w new → KeepsRows steps new.rows (rows ++ offered_row ∷ []) × (new.hits ≡ [])
+    rows_push wanted w new is same (inl more) = (subst (λ (e : Drafted). KeepsRows steps e.rows (rows ++ offered_row ∷ [])) (sym more) (row_more w same), ap (λ (e : Drafted). e.hits) more)
+    rows_push wanted w new is same (inr less) = (subst (λ (e : Drafted). KeepsRows steps e.rows (rows ++ offered_row ∷ [])) (sym less.2) (row_less (sym is ∙ less.0) less.1), ap (λ (e : Drafted). e.hits) less.2 ∙ less.1)
 
-  path_back : (p : List ℕ) → HasPath d.rows p → HasPath t.rows p
-  path_back p has = let s = k.rows has.0 has.1 in (s.0, s.1, paths_among has.0.hits s.0.hits s.2.hits p has.2)
-
-  -- all rows have ended
-  pub keeps_serves : Serves steps d.rows t.rows
-  keeps_serves = record {
-    files = λ w asked p. (
-      (λ has. let s = k.rows has.0 has.1 in (s.0, s.1, sym s.2.word ∙ has.2, paths_among has.0.hits s.0.hits s.2.hits p has.3)),
-      (λ has. (has.0, k.wanted has.0 has.1 (ap (λ (v : List ℕ). asks_for v steps) has.2 ∙ asked), has.2, has.3)),
-    );
-    paths = λ every p. (path_back p, k.paths every p);
-  }
-
--- the same of what follows
-pub then_ok : {T E : Type 0} (r : Result T E) (P Q : Type 0) → (P → Q) → OnOk r P → OnOk r Q
-then_ok (Ok x) P Q f h = f h
-then_ok (Err e) P Q f h = tt
+-- all rows have ended
+pub rows_serve : {steps : List Step} {kept offered : List Row} → KeepsRows steps kept offered → Serves steps kept offered
+rows_serve {steps} {kept} {offered} r = record {
+  files = λ w asked p. (
+    (λ has. let s = r.rows has.0 has.1 in (s.0, s.1, sym s.2.word ∙ has.2, paths_among has.0.hits s.0.hits s.2.hits p has.3)),
+    (λ has. (has.0, r.wanted has.0 has.1 (ap (λ (v : List ℕ). asks_for v steps) has.2 ∙ asked), has.2, has.3)),
+  );
+  paths = λ every p. ((λ has. let s = r.rows has.0 has.1 in (s.0, s.1, paths_among has.0.hits s.0.hits s.2.hits p has.2)), r.paths every p);
+}
 
 -- no hit is the last
 pub none_last : (hs : List Hit) → slice_get (paths_of hs) (length hs - 1) ≡ None → hs ≡ []
@@ -248,10 +213,6 @@ none_last (h ∷ hs) e = absurd (none_some (sym e ∙ slice_get-get_or (paths_of
   where
     none_some : {X : Type 0} {x : X} → None ≡ Some x → ⊥
     none_some e = cc
-
-pub then_if : {T E : Type 0} (r : Result T E) (P Q : T → Type 0) → ((x : T) → P x → Q x) → IfOk r P → IfOk r Q
-then_if (Ok x) P Q f h = f x h
-then_if (Err e) P Q f h = tt
 
 -- what came last
 last_push : {X : Type 0} (xs : List X) (x : X) (n : ℕ) → n ≡ length xs → slice_get (xs ++ x ∷ []) n ≡ Some x

@@ -154,10 +154,7 @@ takes-before : (k : Kind) (w : Token) (ps : List Pending) (ss : List Step) (xs :
 takes-before kind.Word w ps ss xs s k u e = at_state _ s (xs ++ w ∷ []) e (ends ps xs (w ∷ []) ss (Word (str_to_ascii_lowercase w)) u (word w k))
 takes-before kind.Not w ps ss xs s k u e = at_state (Before (pending.Not ∷ ps) ss) s (xs ++ w ∷ []) e (xs, u, ap (λ (t : Token). xs ++ t ∷ []) k)
 takes-before kind.Open w ps ss xs s k u e = at_state (Before (pending.Open ∷ ps) ss) s (xs ++ w ∷ []) e (xs, u, ap (λ (t : Token). xs ++ t ∷ []) k)
-takes-before kind.Both w ps ss xs s k u e = absurd (none_some e)
-takes-before kind.Either w ps ss xs s k u e = absurd (none_some e)
-takes-before kind.Close w ps ss xs s k u e = absurd (none_some e)
-takes-before kind.Other w ps ss xs s k u e = absurd (none_some e)
+takes-before _ w ps ss xs s k u e = absurd (none_some e)
 
 closing : (ps : List Pending) (ss : List Step) (xs : List Token) (w : Token) (s : State) → w ≡ codes ")" → ReachedWhole ps ss xs → closed ps ss ≡ Some s → Reached s (xs ++ w ∷ [])
 closing [] ss xs w s k r e = absurd (none_some e)
@@ -182,10 +179,7 @@ takes-following kind.Either w ps ss xs s k r e =
     let q = joins ps ss xs r in
     at_state (Before (pending.Either ∷ pending_joined ps) (steps_joined ps ss)) s (xs ++ w ∷ []) e (q.0, joining Whole (codes "|") w (pending_joined ps) (steps_joined ps ss) xs k q.1)
 takes-following kind.Close w ps ss xs s k r e = closing (pending_joined ps) (steps_joined ps ss) xs w s k (joins ps ss xs r) e
-takes-following kind.Word w ps ss xs s k r e = absurd (none_some e)
-takes-following kind.Not w ps ss xs s k r e = absurd (none_some e)
-takes-following kind.Open w ps ss xs s k r e = absurd (none_some e)
-takes-following kind.Other w ps ss xs s k r e = absurd (none_some e)
+takes-following _ w ps ss xs s k r e = absurd (none_some e)
 
 taking : (s : State) (w : Token) (xs : List Token) (t : State) → Reached s xs → took s w ≡ Some t → Reached t (xs ++ w ∷ [])
 taking (Before ps ss) w xs t r e = takes-before (kind_of w) w ps ss xs t (kinded w) r e

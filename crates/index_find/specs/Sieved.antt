@@ -4,7 +4,6 @@ use Rattle.std.specs.List.{Contains}
 use Rattle.std.specs.declared.option.Option.{Option}
 use Rattle.word_index.specs.Index.{Hit, Row, IsRising}
 use Rattle.index_table.specs.Rows.{Drafted, AreOrdered, HasFile, HasPath, IsAmong, paths_of}
-use Rattle.index_text.specs.Offered.{Offered}
 use Rattle.index_text.specs.Texts.{ReadsAs}
 use Rattle.index_find.specs.Tree.{Tree}
 use Rattle.index_find.specs.Meaning.{AreMeant}
@@ -17,15 +16,18 @@ pub record IsSomeOf (row other : Row) : Type 0 where
   pub hits : (h : Hit) → Contains row.hits h → Contains other.hits h
 
 -- Of the rows that were offered those of the query's words are kept whole. Where it negates, each path is kept. What is kept was offered.
-pub record Keeps (steps : List Step) (kept : Drafted) (offered : Offered) : Type 0 where
-  pub wanted : (row : Row) → Contains offered.rows row → asks_for row.word steps ≡ true → Contains kept.rows row
-  pub wanted_hits : asks_for offered.word steps ≡ true → kept.hits ≡ offered.hits
-  pub paths : negates steps ≡ true → (path : List ℕ) → HasPath offered.rows path → HasPath kept.rows path
-  pub paths_here : negates steps ≡ true → (h : Hit) → Contains offered.hits h → IsAmong kept h.path
-  pub rows : (row : Row) → Contains kept.rows row → (other : Row) × Contains offered.rows other × IsSomeOf row other
-  pub hits : (h : Hit) → Contains kept.hits h → Contains offered.hits h
-  pub ordered : AreOrdered offered.rows → AreOrdered kept.rows
-  pub rising : IsRising (paths_of offered.hits) → IsRising (paths_of kept.hits)
+pub record KeepsRows (steps : List Step) (kept offered : List Row) : Type 0 where
+  pub wanted : (row : Row) → Contains offered row → asks_for row.word steps ≡ true → Contains kept row
+  pub paths : negates steps ≡ true → (path : List ℕ) → HasPath offered path → HasPath kept path
+  pub rows : (row : Row) → Contains kept row → (other : Row) × Contains offered other × IsSomeOf row other
+  pub ordered : AreOrdered offered → AreOrdered kept
+
+-- the same of the hits of the row under way
+pub record KeepsHits (steps : List Step) (kept : Drafted) (word : List ℕ) (offered : List Hit) : Type 0 where
+  pub wanted : asks_for word steps ≡ true → kept.hits ≡ offered
+  pub paths : negates steps ≡ true → (h : Hit) → Contains offered h → IsAmong kept h.path
+  pub hits : (h : Hit) → Contains kept.hits h → Contains offered h
+  pub rising : IsRising (paths_of offered) → IsRising (paths_of kept.hits)
 
 -- the kept rows have the same files of the query's words, and where it negates the same paths
 pub record Serves (steps : List Step) (kept offered : List Row) : Type 0 where

@@ -7,6 +7,7 @@ pub mod WordCode
 pub mod PathCode
 pub mod LineCodes
 pub mod States
+pub mod Turns
 pub mod Loops
 pub mod Reasons
 pub mod Stopping

@@ -5,7 +5,7 @@ use Rattle.exact_text.specs.declared.stop.Stop.{Stop}
 use Rattle.exact_text.specs.Codes.{IsCode}
 use Rattle.exact_text.specs.Prefixes.{Begins, IsBrokenAt, IsCutShortAt}
 use Rattle.exact_text.specs.Unfolds.{Unfolds}
-use Rattle.exact_text.proofs.Grammar.{begins_after, broken_after, cut_short_after}
+use Rattle.exact_text.proofs.Reaches.{Reaches, reach_here, reach_then, reach_line, reach_same}
 use Rattle.word_index.specs.Index.{Hit, Row}
 use Rattle.index_print.specs.Text.{hit_line, skipped_line}
 use Rattle.index_table.specs.Rows.{paths_of, words_of}
@@ -14,140 +14,29 @@ use Rattle.index_text.specs.Lines.{Heading, word, skipped}
 use Rattle.index_text.specs.Next.{IsLast, IsLastPath, IsNext, IsHeading, heading_text}
 use Rattle.index_text.specs.Steps.{IsRowsText, IsHitsText, IsSkippedText}
 use Rattle.index_text.proofs.LineCodes.{heading_code, hit_code, skipped_code}
-use Rattle.index_text.proofs.States.{Following, rows_grammar, skipped_grammar, hits_grammar, rows_some, rows_back, skipped_some, skipped_back, broken_some, cut_some}
-
--- what is broken or cut short in the rest is so in the whole, so many lines later
-pub record Reaches (T : List ℕ → Type 0) (bytes : List ℕ) (S : List ℕ → Type 0) (rest : List ℕ) (n : ℕ) : Type 0 where
-  pub broken : (k : ℕ) → IsBrokenAt S rest k → IsBrokenAt T bytes (k + n)
-  pub cut : (k : ℕ) → IsCutShortAt S rest k → IsCutShortAt T bytes (k + n)
-  pub prefix : Begins S rest → Begins T bytes
-
-pub reach_here : (T : List ℕ → Type 0) (bytes : List ℕ) → Reaches T bytes T bytes 0
-reach_here T bytes = record {
-  broken = λ k b. let e : k ≡ k + 0 = omega arith in subst (IsBrokenAt T bytes) e b;
-  cut = λ k b. let e : k ≡ k + 0 = omega arith in subst (IsCutShortAt T bytes) e b;
-  prefix = λ b. b;
-}
-
-pub reach_then : {T S R : List ℕ → Type 0} {a b c : List ℕ} {n m : ℕ} (l : ℕ) → l ≡ n + m → Reaches T a S b n → Reaches S b R c m → Reaches T a R c l
-reach_then {T} {S} {R} {a} {b} {c} {n} {m} l e p q = record {
-  broken = λ k x. let s : k + m + n ≡ k + l = omega (arith, e) in subst (IsBrokenAt T a) s (p.broken (k + m) (q.broken k x));
-  cut = λ k x. let s : k + m + n ≡ k + l = omega (arith, e) in subst (IsCutShortAt T a) s (p.cut (k + m) (q.cut k x));
-  prefix = λ b. p.prefix (q.prefix b);
-}
-
-reach_line : {X : Type 0} {Text : List ℕ → Type 0} {lawful : X → Type 0} {text : X → List ℕ} {Next : X → List ℕ → Type 0} {read : List ℕ → Result (X × List ℕ) Stop} → Unfolds Text lawful text Next → IsCode lawful text read
-    → (x : X) → lawful x → (rest : List ℕ) → Reaches Text (text x ++ rest) (Next x) rest 1
-reach_line grammar code x l rest = record {
-  broken = λ k b. broken_after grammar code x l rest k b;
-  cut = λ k b. cut_short_after grammar code x l rest k b;
-  prefix = λ b. begins_after grammar code x l rest b;
-}
-
-pub reach_some : {S T : List ℕ → Type 0} → ((bytes : List ℕ) → T bytes → (bytes ≡ []) ⊎ S bytes) → ((bytes : List ℕ) → S bytes → T bytes) → (bytes : List ℕ) → 0 < length bytes → Reaches T bytes S bytes 0
-reach_some some back [] h = absurd (omega (arith, h))
-reach_some {S} {T} some back (c ∷ input) h = record {
-  broken = λ k b. let e : k ≡ k + 0 = omega arith in subst (IsBrokenAt T (c ∷ input)) e (broken_some some back c input k b);
-  cut = λ k b. let e : k ≡ k + 0 = omega arith in subst (IsCutShortAt T (c ∷ input)) e (cut_some some back c input k b);
-  prefix = λ b. (b.0, back _ b.1);
-}
-
--- the same texts, said in another way
-pub reach_same : {S T : List ℕ → Type 0} → ((bytes : List ℕ) → T bytes → S bytes) → ((bytes : List ℕ) → S bytes → T bytes) → (bytes : List ℕ) → Reaches T bytes S bytes 0
-reach_same {S} {T} to from bytes = record {
-  broken = λ k b. let e : k ≡ k + 0 = omega arith in subst (IsBrokenAt T bytes) e (record { counted = b.counted; before = (b.before.0, from _ b.before.1); broken = λ t. b.broken (t.0, to _ t.1) });
-  cut = λ k b. let e : k ≡ k + 0 = omega arith in subst (IsCutShortAt T bytes) e (record { prefix = (b.prefix.0, from _ b.prefix.1); no_text = λ t. b.no_text (to _ t); last = b.last });
-  prefix = λ b. (b.0, from _ b.1);
-}
-
--- the last path of some hits, and so on
-abbrev pub end_path : Option (List ℕ) → List Hit → Option (List ℕ)
-end_path last [] = last
-end_path last (h ∷ hs) = end_path (Some h.path) hs
-
-abbrev pub end_word : Option (List ℕ) → List Row → Option (List ℕ)
-end_word last [] = last
-end_word last (r ∷ rs) = end_word (Some r.word) rs
-
-abbrev pub end_of : Option (List ℕ) → List (List ℕ) → Option (List ℕ)
-end_of last [] = last
-end_of last (p ∷ ps) = end_of (Some p) ps
-
-end_from : (x : List ℕ) (ps : List (List ℕ)) → end_of (Some x) ps ≡ slice_get (x ∷ ps) (length ps)
-end_from x [] = refl
-end_from x (p ∷ ps) = end_from p ps
-
-pub end_of_is : (ps : List (List ℕ)) → end_of None ps ≡ slice_get ps (length ps - 1)
-end_of_is [] = refl
-end_of_is (p ∷ ps) = let e : length ps ≡ length (p ∷ ps) - 1 = omega arith in end_from p ps ∙ ap (slice_get (p ∷ ps)) e
-
-end_path_of : (last : Option (List ℕ)) (hs : List Hit) → end_path last hs ≡ end_of last (paths_of hs)
-end_path_of last [] = refl
-end_path_of last (h ∷ hs) = end_path_of (Some h.path) hs
-
-length_paths : (hs : List Hit) → length (paths_of hs) ≡ length hs
-length_paths [] = refl
-length_paths (h ∷ hs) = ap suc (length_paths hs)
-
-pub end_path_is : (hs : List Hit) → end_path None hs ≡ slice_get (paths_of hs) (length hs - 1)
-end_path_is hs = end_path_of None hs ∙ end_of_is (paths_of hs) ∙ ap (λ n. slice_get (paths_of hs) (n - 1)) (length_paths hs)
-
-end_word_of : (last : Option (List ℕ)) (rs : List Row) → end_word last rs ≡ end_of last (words_of rs)
-end_word_of last [] = refl
-end_word_of last (r ∷ rs) = end_word_of (Some r.word) rs
-
-length_words : (rs : List Row) → length (words_of rs) ≡ length rs
-length_words [] = refl
-length_words (r ∷ rs) = ap suc (length_words rs)
-
-pub end_word_is : (rs : List Row) → end_word None rs ≡ slice_get (words_of rs) (length rs - 1)
-end_word_is rs = end_word_of None rs ∙ end_of_is (words_of rs) ∙ ap (λ n. slice_get (words_of rs) (n - 1)) (length_words rs)
-
-pub hits_push : (last : Option (List ℕ)) (hs : List Hit) (h : Hit) → AreHits last hs → IsHit (end_path last hs) h → AreHits last (hs ++ h ∷ [])
-hits_push last [] h are is = (is, tt)
-hits_push last (g ∷ hs) h are is = (are.0, hits_push (Some g.path) hs h are.1 is)
-
-pub paths_push : (last : Option (List ℕ)) (ps : List (List ℕ)) (p : List ℕ) → ArePaths last ps → IsNext (end_of last ps) p → ArePaths last (ps ++ p ∷ [])
-paths_push last [] p are is = (is, tt)
-paths_push last (q ∷ ps) p are is = (are.0, paths_push (Some q) ps p are.1 is)
-
-pub rows_push : (last : Option (List ℕ)) (rs : List Row) (r : Row) → AreRows last rs → IsRow (end_word last rs) r → AreRows last (rs ++ r ∷ [])
-rows_push last [] r are is = (is, tt)
-rows_push last (q ∷ rs) r are is = (are.0, rows_push (Some q.word) rs r are.1 is)
-
-pub path_stays : (last : Option (List ℕ)) (hs : List Hit) → IsLastPath last → AreHits last hs → IsLastPath (end_path last hs)
-path_stays last [] ok are = ok
-path_stays last (h ∷ hs) ok are = path_stays (Some h.path) hs are.0.path are.1
-
-pub end_stays : (last : Option (List ℕ)) (ps : List (List ℕ)) → IsLastPath last → ArePaths last ps → IsLastPath (end_of last ps)
-end_stays last [] ok are = ok
-end_stays last (p ∷ ps) ok are = end_stays (Some p) ps are.0.0 are.1
-
-pub word_stays : (last : Option (List ℕ)) (rs : List Row) → IsLast last → AreRows last rs → IsLast (end_word last rs)
-word_stays last [] ok are = ok
-word_stays last (r ∷ rs) ok are = word_stays (Some r.word) rs are.0.word are.1
+use Rattle.index_text.proofs.Turns.{hit_path, row_word, itself, end_of}
+use Rattle.index_text.proofs.States.{Following, rows_grammar, skipped_grammar, hits_grammar, rows_some, rows_back, skipped_some, skipped_back}
 
 -- past hits, skipped paths and rows
 pub reach_hits : (w : List ℕ) (last : Option (List ℕ)) (hs : List Hit) → IsLastPath last → AreHits last hs → (left : ℕ) (rest : List ℕ) (n : ℕ) → n ≡ length hs + left
-    → Reaches (IsHitsText w n last) (flat_map hit_line hs ++ rest) (IsHitsText w left (end_path last hs)) rest (length hs)
+    → Reaches (IsHitsText w n last) (flat_map hit_line hs ++ rest) (IsHitsText w left (end_of hit_path last hs)) rest (length hs)
 reach_hits w last [] ok are left rest n e = let same : left ≡ n = omega (arith, e) in subst (λ m. Reaches (IsHitsText w m last) rest (IsHitsText w left last) rest 0) same (reach_here (IsHitsText w left last) rest)
 reach_hits w last (h ∷ hs) ok are left rest n e =
     let m = length hs + left in
     let tail = flat_map hit_line hs ++ rest in
     let same : suc m ≡ n = omega (arith, e) in
-    let first = reach_line (hits_grammar w m last ok) (hit_code last ok) h are.0 tail in
+    let first = reach_line (λ _ t. inr t) (λ _ t. t) (hits_grammar w m last ok) (hit_code last ok) h are.0 tail in
     let both = reach_then (length (h ∷ hs)) (omega arith) first (reach_hits w (Some h.path) hs are.0.path are.1 left rest m refl) in
-    subst (λ k. Reaches (IsHitsText w k last) (flat_map hit_line (h ∷ hs) ++ rest) (IsHitsText w left (end_path (Some h.path) hs)) rest (length (h ∷ hs))) same
-    (subst (λ b. Reaches (IsHitsText w (suc m) last) b (IsHitsText w left (end_path (Some h.path) hs)) rest (length (h ∷ hs))) (sym (append_assoc (hit_line h) (flat_map hit_line hs) rest)) both)
+    subst (λ k. Reaches (IsHitsText w k last) (flat_map hit_line (h ∷ hs) ++ rest) (IsHitsText w left (end_of hit_path (Some h.path) hs)) rest (length (h ∷ hs))) same
+    (subst (λ b. Reaches (IsHitsText w (suc m) last) b (IsHitsText w left (end_of hit_path (Some h.path) hs)) rest (length (h ∷ hs))) (sym (append_assoc (hit_line h) (flat_map hit_line hs) rest)) both)
 
-pub reach_paths : (last : Option (List ℕ)) (ps : List (List ℕ)) → IsLastPath last → ArePaths last ps → (rest : List ℕ) → Reaches (IsSkippedText last) (flat_map skipped_line ps ++ rest) (IsSkippedText (end_of last ps)) rest (length ps)
+pub reach_paths : (last : Option (List ℕ)) (ps : List (List ℕ)) → IsLastPath last → ArePaths last ps → (rest : List ℕ) → Reaches (IsSkippedText last) (flat_map skipped_line ps ++ rest) (IsSkippedText (end_of itself last ps)) rest (length ps)
 reach_paths last [] ok are rest = reach_here (IsSkippedText last) rest
 reach_paths last (p ∷ ps) ok are rest =
     let tail = flat_map skipped_line ps ++ rest in
-    let some = reach_some (skipped_some last) (skipped_back last) (skipped_line p ++ tail) (omega arith) in
-    let first = reach_then 1 (omega arith) some (reach_line (skipped_grammar last ok) (skipped_code last ok) p are.0 tail) in
+    let first = reach_line (skipped_some last) (skipped_back last) (skipped_grammar last ok) (skipped_code last ok) p are.0 tail in
     let both = reach_then (length (p ∷ ps)) (omega arith) first (reach_paths (Some p) ps are.0.0 are.1 rest) in
-    subst (λ b. Reaches (IsSkippedText last) b (IsSkippedText (end_of (Some p) ps)) rest (length (p ∷ ps))) (sym (append_assoc (skipped_line p) (flat_map skipped_line ps) rest)) both
+    subst (λ b. Reaches (IsSkippedText last) b (IsSkippedText (end_of itself (Some p) ps)) rest (length (p ∷ ps))) (sym (append_assoc (skipped_line p) (flat_map skipped_line ps) rest)) both
 
 -- how many lines rows have
 abbrev pub lines_of : List Row → ℕ
@@ -165,14 +54,9 @@ no_hits_to w last bytes (h ∷ hs, rest, many, are, rows, is) = absurd (omega (a
 no_hits_from : (w : List ℕ) (last : Option (List ℕ)) (bytes : List ℕ) → IsRowsText (Some w) bytes → IsHitsText w 0 last bytes
 no_hits_from w last bytes t = ([], bytes, refl, tt, t, refl)
 
-pub heading_long : (x : Heading) (rest : List ℕ) → 0 < length (heading_text x ++ rest)
-heading_long (word w n) rest = simp length-append (omega arith)
-heading_long (skipped p) rest = omega arith
-
 -- past one heading
 pub reach_heading : (last : Option (List ℕ)) → IsLast last → (x : Heading) → IsHeading last x → (rest : List ℕ) → Reaches (IsRowsText last) (heading_text x ++ rest) (Following x) rest 1
-reach_heading last ok x l rest =
-    reach_then 1 (omega arith) (reach_some (rows_some last) (rows_back last) (heading_text x ++ rest) (heading_long x rest)) (reach_line (rows_grammar last) (heading_code last ok) x l rest)
+reach_heading last ok x l rest = reach_line (rows_some last) (rows_back last) (rows_grammar last) (heading_code last ok) x l rest
 
 reach_row : (last : Option (List ℕ)) (r : Row) → IsLast last → IsRow last r → (rest : List ℕ) → Reaches (IsRowsText last) (row_text r ++ rest) (IsRowsText (Some r.word)) rest (1 + length r.hits)
 reach_row last r ok is rest =
@@ -180,13 +64,13 @@ reach_row last r ok is rest =
     let heading = reach_heading last ok (word r.word (length r.hits)) ((is.word, is.above), is.many) (hits ++ rest) in
     let all : length r.hits ≡ length r.hits + 0 = omega arith in
     let body = reach_hits r.word None r.hits tt is.hits 0 rest (length r.hits) all in
-    let ended = reach_same (no_hits_to r.word (end_path None r.hits)) (no_hits_from r.word (end_path None r.hits)) rest in
+    let ended = reach_same (no_hits_to r.word (end_of hit_path None r.hits)) (no_hits_from r.word (end_of hit_path None r.hits)) rest in
     let both = reach_then (1 + length r.hits) (omega arith) heading (reach_then (length r.hits) (omega arith) body ended) in
     subst (λ b. Reaches (IsRowsText last) b (IsRowsText (Some r.word)) rest (1 + length r.hits)) (sym (append_assoc (word_line r) hits rest)) both
 
-pub reach_rows : (last : Option (List ℕ)) (rs : List Row) → IsLast last → AreRows last rs → (rest : List ℕ) → Reaches (IsRowsText last) (flat_map row_text rs ++ rest) (IsRowsText (end_word last rs)) rest (lines_of rs)
+pub reach_rows : (last : Option (List ℕ)) (rs : List Row) → IsLast last → AreRows last rs → (rest : List ℕ) → Reaches (IsRowsText last) (flat_map row_text rs ++ rest) (IsRowsText (end_of row_word last rs)) rest (lines_of rs)
 reach_rows last [] ok are rest = reach_here (IsRowsText last) rest
 reach_rows last (r ∷ rs) ok are rest =
     let tail = flat_map row_text rs ++ rest in
     let both = reach_then (lines_of (r ∷ rs)) refl (reach_row last r ok are.0 tail) (reach_rows (Some r.word) rs are.0.word are.1 rest) in
-    subst (λ b. Reaches (IsRowsText last) b (IsRowsText (end_word (Some r.word) rs)) rest (lines_of (r ∷ rs))) (sym (append_assoc (row_text r) (flat_map row_text rs) rest)) both
+    subst (λ b. Reaches (IsRowsText last) b (IsRowsText (end_of row_word (Some r.word) rs)) rest (lines_of (r ∷ rs))) (sym (append_assoc (row_text r) (flat_map row_text rs) rest)) both

@@ -3,20 +3,13 @@ use Rattle.std.proofs.Common.{◌≡◌, ℕ, List, [], ◌∷◌, ◌++◌, len
 use Rattle.std.specs.List.{flat_map}
 use Rattle.exact_text.specs.declared.stop.Stop.{Stop}
 use Rattle.exact_text.specs.Codes.{IsCode}
-use Rattle.exact_text.proofs.CodeLaws.{ok_injective}
+use Rattle.exact_text.proofs.CodeLaws.{read_same}
 use Rattle.word_index.specs.Index.{Hit, Row}
 use Rattle.index_print.specs.Text.{hit_line, skipped_line}
 use Rattle.index_text.specs.Texts.{AreHits, AreRows, ArePaths, ReadsAs, word_line, row_text, text_of}
 use Rattle.index_text.specs.Lines.{word, skipped}
 use Rattle.index_text.specs.Next.{IsLast, IsLastPath, heading_text}
 use Rattle.index_text.proofs.LineCodes.{heading_code, hit_code, skipped_code}
-
--- bytes begin with one value's text, and the rest of them is one
-read_same : {X : Type 0} {lawful : X → Type 0} {text : X → List ℕ} {read : List ℕ → Result (X × List ℕ) Stop} → IsCode lawful text read
-    → (x y : X) (a b : List ℕ) → lawful x → lawful y → text x ++ a ≡ text y ++ b → (x ≡ y) × (a ≡ b)
-read_same {X} {lawful} {text} {read} code x y a b l m e =
-    let same : (let p : X × List ℕ = (x, a) in p) ≡ (y, b) = ok_injective (sym (code.again x a l) ∙ ap read e ∙ code.again y b m) in
-    (ap (λ (p : X × List ℕ). p.0) same, ap (λ (p : X × List ℕ). p.1) same)
 
 one_paths : (last : Option (List ℕ)) → IsLastPath last → (ps qs : List (List ℕ)) → ArePaths last ps → ArePaths last qs → flat_map skipped_line ps ≡ flat_map skipped_line qs → ps ≡ qs
 one_paths last ok [] [] a b e = refl

@@ -12,10 +12,12 @@ use Rattle.word_index.proofs.Images.{to_map, from_map}
 use Rattle.word_index.proofs.Searches.{not_below}
 use Rattle.word_index.proofs.Unique.{from_rows}
 use Rattle.index_print.specs.Text.{index_text}
-use Rattle.index_text.specs.Texts.{IsWord, IsPath, IsFigure, IsAbove, AreHits, AreRows, ArePaths, ReadsAs}
+use Rattle.index_text.specs.Next.{IsNext}
+use Rattle.index_text.specs.Texts.{IsWord, IsPath, IsFigure, IsHit, IsRow, IsAbove, AreInTurn, AreHits, ReadsAs}
 use Rattle.index_text.specs.Laws.{IsFile, AreFiles}
 use Rattle.index_text.proofs.FileWords.{file_counted}
 use Rattle.index_text.proofs.Printed.{printed_from}
+use Rattle.index_text.proofs.Turns.{hit_path, row_word, itself}
 
 -- what rises from the last text on, is offered element by element
 module _ {X : Type 0} (key : X → List ℕ) where
@@ -33,13 +35,12 @@ module _ {X : Type 0} (key : X → List ℕ) where
   rest_rises : (x : X) (xs : List X) → Rises (x ∷ xs) → Rises xs
   rest_rises x xs rise i j d before within = rise (suc i) (suc j) d (omega (arith, before)) (omega (arith, within))
 
-  module _ (Good : X → Type 0) (Are : Option (List ℕ) → List X → Type 0) (none : (last : Option (List ℕ)) → Are last [])
-      (one : (last : Option (List ℕ)) (x : X) (xs : List X) → Good x → IsAbove last (key x) → Are (Some (key x)) xs → Are last (x ∷ xs)) where
-    all_from : (last : Option (List ℕ)) (xs : List X) → ((x : X) → Contains xs x → IsAbove last (key x)) → Rises xs → ((x : X) → Contains xs x → Good x) → Are last xs
-    all_from last [] above rise good = none last
-    all_from last (x ∷ xs) above rise good =
-        let here : Contains (x ∷ xs) x = (0, omega arith, refl) in
-        one last x xs (good x here) (above x here) (all_from (Some (key x)) xs (first_below x xs rise) (rest_rises x xs rise) (λ y h. good y (suc h.0, omega (arith, h.1), h.2)))
+  all_from : (Good : X → Type 0) (lawful : Option (List ℕ) → X → Type 0) → ((last : Option (List ℕ)) (x : X) → Good x → IsAbove last (key x) → lawful last x)
+      → (last : Option (List ℕ)) (xs : List X) → ((x : X) → Contains xs x → IsAbove last (key x)) → Rises xs → ((x : X) → Contains xs x → Good x) → AreInTurn lawful key last xs
+  all_from Good lawful one last [] above rise good = tt
+  all_from Good lawful one last (x ∷ xs) above rise good =
+      let here : Contains (x ∷ xs) x = (0, omega arith, refl) in
+      (one last x (good x here) (above x here), all_from Good lawful one (Some (key x)) xs (first_below x xs rise) (rest_rises x xs rise) (λ y h. good y (suc h.0, omega (arith, h.1), h.2)))
 
 -- rising texts that are all among others are at most as many
 few_texts : (xs ys : List (List ℕ)) → IsRising xs → ((x : List ℕ) → Contains xs x → Contains ys x) → length xs ≤ length ys
@@ -94,7 +95,7 @@ module _ (files : List File) (index : Index) (are : AreFiles files) (of : IsInde
       record {
         word = (numbered r (get_or r.hits 0 none) among first).word;
         many = (omega (arith, o.0), omega (arith, few, are.many));
-        hits = all_from (λ (h : Hit). h.path) (IsNumbered r.word) AreHits (λ last. tt) (λ last h hs good above rest. (record { path = good.path; above = above; count = good.count; line = good.line }, rest))
+        hits = all_from hit_path (IsNumbered r.word) IsHit (λ last h good above. record { path = good.path; above = above; count = good.count; line = good.line })
             None r.hits (λ h k. tt) (rises_from (λ (h : Hit). h.path) r.hits o.1) (λ h has. numbered r h among has);
       }
     where
@@ -110,9 +111,9 @@ module _ (files : List File) (index : Index) (are : AreFiles files) (of : IsInde
 
   reads_back : ReadsAs (index_text index) index.rows index.skipped
   reads_back = record {
-    rows = all_from (λ (r : Row). r.word) IsFilled AreRows (λ last. tt) (λ last r rs good above rest. (record { word = good.word; above = above; many = good.many.0; hits = good.hits }, rest))
+    rows = all_from row_word IsFilled IsRow (λ last r good above. record { word = good.word; above = above; many = good.many.0; hits = good.hits })
         None index.rows (λ r k. tt) (rises_from (λ (r : Row). r.word) index.rows of.ordered.words) filled;
-    skipped = all_from (λ (p : List ℕ). p) IsPath ArePaths (λ last. tt) (λ last p ps good above rest. ((good, above), rest)) None index.skipped (λ p k. tt) of.ordered.skipped skipped_path;
+    skipped = all_from itself IsPath IsNext (λ last p good above. (good, above)) None index.skipped (λ p k. tt) of.ordered.skipped skipped_path;
     text = sym (printed_from index.skipped index.rows (λ r has. (filled r has).many.1));
   }
 

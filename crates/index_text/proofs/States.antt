@@ -6,6 +6,7 @@ use Rattle.std.proofs.lemmas.Fmt.{decimal_by_steps}
 use Rattle.exact_text.specs.Prefixes.{first_lines, IsBrokenAt, IsCutShortAt}
 use Rattle.exact_text.specs.Unfolds.{Unfolds}
 use Rattle.exact_text.specs.Prefixes.{IsFlat, IsLine}
+use Rattle.exact_text.proofs.Flat.{flat_from, flat_decimal}
 use Rattle.exact_text.proofs.Grammar.{IsFlat-append}
 use Rattle.text_output.specs.Paths.{escaped, newline}
 use Rattle.word_index.specs.Index.{Hit, Row}
@@ -21,10 +22,6 @@ use Rattle.index_text.specs.Next.{IsLastPath, IsNext, IsHeading, heading_text}
 use Rattle.index_text.proofs.PathCode.{some_next}
 
 -- lines have a newline at their end, and nowhere else
-flat_decimal : (n : ℕ) → n < 2 ^ 64 → IsFlat (decimal n)
-flat_decimal n fits =
-    decimal_by_steps (λ _ ds. IsFlat ds) (λ n small. ((λ h. omega arith), tt)) (λ n ds large h. IsFlat-append ds ((48 + n % 10) ∷ []) h ((λ k. omega arith), tt)) n fits
-
 flat_numeral : (n : ℕ) → IsFlat (numeral n)
 flat_numeral n =
     numeral_by_steps (λ _ ds. IsFlat ds) (λ n small. ((λ h. omega arith), tt)) (λ n ds large h. IsFlat-append ds ((48 + n % 10) ∷ []) h ((λ k. omega arith), tt)) n
@@ -36,30 +33,21 @@ flat_word (b ∷ w) h = let low = (low_key b h.0).1 in ((λ e. omega (arith, low
 flat_path : (p : List ℕ) → IsFlat (escaped p)
 flat_path p = flat_passes (escaped p) (escaped_passes p)
 
-flat_blank : IsFlat (codes " ")
-flat_blank = ((λ e. omega (arith, e)), tt)
-
-flat_indent : IsFlat (codes "  ")
-flat_indent = ((λ e. omega (arith, e)), ((λ e. omega (arith, e)), tt))
-
-flat_skipped : IsFlat (codes "skipped: ")
-flat_skipped = ((λ e. omega (arith, e)), ((λ e. omega (arith, e)), ((λ e. omega (arith, e)), ((λ e. omega (arith, e)), ((λ e. omega (arith, e)), ((λ e. omega (arith, e)), ((λ e. omega (arith, e)), ((λ e. omega (arith, e)), ((λ e. omega (arith, e)), tt)))))))))
-
 skipped_is_line : (p : List ℕ) → IsLine (skipped_line p)
-skipped_is_line p = (codes "skipped: " ++ escaped p, IsFlat-append (codes "skipped: ") (escaped p) flat_skipped (flat_path p), refl)
+skipped_is_line p = (codes "skipped: " ++ escaped p, IsFlat-append (codes "skipped: ") (escaped p) (flat_from (codes "skipped: ") refl) (flat_path p), refl)
 
 heading_is_line : (last : Option (List ℕ)) (x : Heading) → IsHeading last x → IsLine (heading_text x)
-heading_is_line last (word w n) h = (w ++ codes " " ++ numeral n, IsFlat-append (w ++ codes " ") (numeral n) (IsFlat-append w (codes " ") (flat_word w h.0.0.bytes) flat_blank) (flat_numeral n), refl)
+heading_is_line last (word w n) h = (w ++ codes " " ++ numeral n, IsFlat-append (w ++ codes " ") (numeral n) (IsFlat-append w (codes " ") (flat_word w h.0.0.bytes) (flat_from (codes " ") refl)) (flat_numeral n), refl)
 heading_is_line last (skipped p) h = skipped_is_line p
 
 hit_is_line : (last : Option (List ℕ)) (h : Hit) → IsHit last h → IsLine (hit_line h)
 hit_is_line last h k =
     let c = flat_decimal h.count k.count.1 in
     let l = flat_decimal h.line k.line.1 in
-    let a = IsFlat-append (codes "  ") (decimal h.count) flat_indent c in
-    let b = IsFlat-append (codes "  " ++ decimal h.count) (codes " ") a flat_blank in
+    let a = IsFlat-append (codes "  ") (decimal h.count) (flat_from (codes "  ") refl) c in
+    let b = IsFlat-append (codes "  " ++ decimal h.count) (codes " ") a (flat_from (codes " ") refl) in
     let d = IsFlat-append (codes "  " ++ decimal h.count ++ codes " ") (decimal h.line) b l in
-    let e = IsFlat-append (codes "  " ++ decimal h.count ++ codes " " ++ decimal h.line) (codes " ") d flat_blank in
+    let e = IsFlat-append (codes "  " ++ decimal h.count ++ codes " " ++ decimal h.line) (codes " ") d (flat_from (codes " ") refl) in
     (codes "  " ++ decimal h.count ++ codes " " ++ decimal h.line ++ codes " " ++ escaped h.path, IsFlat-append (codes "  " ++ decimal h.count ++ codes " " ++ decimal h.line ++ codes " ") (escaped h.path) e (flat_path h.path), refl)
 
 -- after a heading
@@ -174,29 +162,3 @@ skipped_some last bytes (p ∷ ps, paths, is) = inr (record { path = p; rest = f
 
 pub skipped_back : (last : Option (List ℕ)) (bytes : List ℕ) → SomeSkipped last bytes → IsSkippedText last bytes
 skipped_back last bytes t = (t.path ∷ t.next.0, (t.lawful, t.next.1), t.is ∙ ap (λ x. skipped_line t.path ++ x) t.next.2)
-
--- where the bytes aren't empty, it is enough to look at texts that aren't
-module _ {S T : List ℕ → Type 0} (some : (bytes : List ℕ) → T bytes → (bytes ≡ []) ⊎ S bytes) (back : (bytes : List ℕ) → S bytes → T bytes) where
-  never_empty : (c : ℕ) (input more : List ℕ) (k : ℕ) → 1 ≤ k → first_lines k (c ∷ input) ++ more ≡ [] → ⊥
-  never_empty c input more zero low e = omega (arith, low)
-  never_empty c input more (suc k) low e = let bad = ap length e in cc
-
-  pub broken_some : (c : ℕ) (input : List ℕ) (k : ℕ) → IsBrokenAt S (c ∷ input) k → IsBrokenAt T (c ∷ input) k
-  broken_some c input k b = record {
-    counted = b.counted;
-    before = (b.before.0, back _ b.before.1);
-    broken = λ t. elim (some _ t.1) [
-      | inl e ↦ never_empty c input t.0 k b.counted e
-      | inr s ↦ b.broken (t.0, s)
-    ];
-  }
-
-  pub cut_some : (c : ℕ) (input : List ℕ) (k : ℕ) → IsCutShortAt S (c ∷ input) k → IsCutShortAt T (c ∷ input) k
-  cut_some c input k b = record {
-    prefix = (b.prefix.0, back _ b.prefix.1);
-    no_text = λ t. elim (some _ t) [
-      | inl e ↦ cc
-      | inr s ↦ b.no_text s
-    ];
-    last = b.last;
-  }

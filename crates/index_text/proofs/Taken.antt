@@ -16,14 +16,16 @@ use Rattle.index_text.specs.Offered.{Offered, nothing, with_word, with_end, last
 use Rattle.index_text.specs.declared.lines.Prefix.{Prefix}
 use Rattle.index_text.specs.declared.lines.Prefix.TheVariants as prefixes
 use Rattle.index_text.specs.Numerals.{numeral, capped}
-use Rattle.index_text.specs.Texts.{IsHit, IsAbove, AreHits, AreRows, ArePaths, word_line, row_text, text_of}
+use Rattle.index_text.specs.Texts.{IsHit, IsRow, IsAbove, AreHits, AreRows, ArePaths, word_line, row_text, text_of}
 use Rattle.index_text.specs.Lines.{Heading, word, skipped, heading_at, hit_at, skipped_at}
 use Rattle.index_text.specs.Next.{IsLast, IsLastPath, IsNext, IsHeading, heading_text, IsTaken, TakesLine, SaysHeading, SaysHit, SaysPath}
 use Rattle.index_text.specs.Steps.{IsRowsText, IsHitsText, IsSkippedText}
 use Rattle.index_text.specs.Takes.{Lacks, IsAll, TakesHit, TakesSkipped, TakesPaths, TakesRow, TakesRows}
 use Rattle.index_text.proofs.LineCodes.{heading_code, hit_code, skipped_code}
 use Rattle.index_text.proofs.States.{Following, rows_grammar, skipped_grammar, hits_grammar, rows_some, rows_back, skipped_some, skipped_back}
-use Rattle.index_text.proofs.Loops.{Reaches, reach_then, reach_heading, end_path, end_of, end_of_is, end_path_is, end_word_is, hits_push, paths_push, rows_push, path_stays, end_stays, word_stays, reach_hits, reach_paths, reach_rows, lines_of, lines_push}
+use Rattle.exact_text.proofs.Reaches.{Reaches, reach_then}
+use Rattle.index_text.proofs.Turns.{hit_path, row_word, itself, end_of, end_is, end_append, last_of, join, push, stays}
+use Rattle.index_text.proofs.Loops.{reach_heading, reach_hits, reach_paths, reach_rows, lines_of, lines_push}
 use Rattle.index_text.proofs.Reasons.{taken_none, taken_then, taken_asked, taken_all, all_after, lacks_after, lacks_line, lacks_first, lacks_asked}
 
 -- a taker that was offered something was offered more
@@ -56,7 +58,7 @@ skip_stuck last was is old new left left' before since laid f same h =
 
 -- the last path of a row under way
 pub last_hit_is : (d : Offered) → AreHits None d.hits → IsLastPath (last_path d)
-last_hit_is d are = subst IsLastPath (end_path_is d.hits) (path_stays None d.hits tt are)
+last_hit_is d are = subst IsLastPath (end_is hit_path d.hits) (stays hit_path IsHit IsLastPath (λ last h l. l.path) None d.hits tt are)
 
 pub skipped_long : (p : List ℕ) → 0 < length (skipped_line p)
 skipped_long p = simp length-append (omega arith)
@@ -82,7 +84,7 @@ hits_next {many} {start} {first} {old} {now} {intake} {here} {left} t new after 
     let hits : new.hits ≡ now.hits ++ h.0 ∷ [] = ap (λ (d : Offered). d.hits) h.3 in
     let long : length new.hits ≡ length now.hits + 1 = ap length hits ∙ length_push now.hits h.0 in
     record {
-      are = subst (AreHits None) (sym hits) (hits_push None now.hits h.0 t.are (subst (λ l. IsHit l h.0) (sym (end_path_is now.hits)) h.1));
+      are = subst (AreHits None) (sym hits) (push hit_path IsHit None now.hits h.0 t.are (subst (λ l. IsHit l h.0) (sym (end_is hit_path now.hits)) h.1));
       kept = h.3 ∙ (λ i. record (t.kept i) { hits = now.hits ++ h.0 ∷ [] }) ∙ ap (λ l. record old { hits = l }) (sym hits);
       count = omega (arith, t.count, long, some);
       taken = taken_then t.taken h.2 (flat_map hit_line new.hits) (length new.hits) (lines_append hit_line now.hits h.0 ∙ ap (flat_map hit_line) (sym hits)) (sym long);
@@ -104,17 +106,13 @@ pub hits_stop : {many : ℕ} {start : Intake} {first : Option (List ℕ)} {old n
     → (w : List ℕ) (there : Option (List ℕ)) (begin before since : ℕ) (f : TextFault) → OrMemory (IsStuck (hit_at (last_path now)) intake.lines (room_of intake) (rest_of intake here) there before since) f
     → before ≡ begin → 0 < left → (n : ℕ) → many ≡ capped n → Lacks (IsHitsText w n None) start first there begin since f
 hits_stop {many} {start} {first} {old} {now} {intake} {here} {left} t w there begin before since f h same some n c =
-    let end = end_path None now.hits in
-    let ok : IsLastPath end = path_stays None now.hits tt t.are in
+    let end = end_of hit_path None now.hits in
+    let ok : IsLastPath end = stays hit_path IsHit IsLastPath (λ last h l. l.path) None now.hits tt t.are in
     let k = n - length now.hits - 1 in
     let all : n ≡ length now.hits + suc k = omega (arith, t.count, some, c) in
-    let stuck = subst (λ l. OrMemory (IsStuck (hit_at l) intake.lines (room_of intake) (rest_of intake here) there before since) f) (sym (end_path_is now.hits)) h in
+    let stuck = subst (λ l. OrMemory (IsStuck (hit_at l) intake.lines (room_of intake) (rest_of intake here) there before since) f) (sym (end_is hit_path now.hits)) h in
     let line = lacks_line (hits_grammar w k end ok) (hit_code end ok) (rest_of intake here) there intake.lines (room_of intake) before since f stuck in
     lacks_after t.taken (λ rest. reach_hits w None now.hits tt t.are (suc k) rest n all) there begin before since f same line
-
-end_of_append : (last : Option (List ℕ)) (ps qs : List (List ℕ)) → end_of last (ps ++ qs) ≡ end_of (end_of last ps) qs
-end_of_append last [] qs = refl
-end_of_append last (p ∷ ps) qs = end_of_append (Some p) ps qs
 
 -- some skipped paths
 pub record TakenPaths (start : Intake) (first : Option (List ℕ)) (old now : Offered) (intake : Intake) (here : Option (List ℕ)) : Type 0 where
@@ -132,21 +130,17 @@ paths_begin start first old = record {
 }
 
 pub last_is : (old : Offered) → ArePaths None old.skipped → IsLastPath (last_skipped old)
-last_is old are = subst IsLastPath (end_of_is old.skipped) (end_stays None old.skipped tt are)
+last_is old are = subst IsLastPath (last_of old.skipped) (stays itself IsNext IsLastPath (λ last p l. l.0) None old.skipped tt are)
 
-last_now : (old now : Offered) (paths : List (List ℕ)) → now ≡ record old { skipped = old.skipped ++ paths } → last_skipped now ≡ end_of (last_skipped old) paths
+last_now : (old now : Offered) (paths : List (List ℕ)) → now ≡ record old { skipped = old.skipped ++ paths } → last_skipped now ≡ end_of itself (last_skipped old) paths
 last_now old now paths kept =
-    ap last_skipped kept ∙ sym (end_of_is (old.skipped ++ paths)) ∙ end_of_append None old.skipped paths ∙ ap (λ l. end_of l paths) (end_of_is old.skipped)
-
-paths_join : (last : Option (List ℕ)) (ps qs : List (List ℕ)) → ArePaths last ps → ArePaths (end_of last ps) qs → ArePaths last (ps ++ qs)
-paths_join last [] qs a b = b
-paths_join last (p ∷ ps) qs a b = (a.0, paths_join (Some p) ps qs a.1 b)
+    ap last_skipped kept ∙ sym (last_of (old.skipped ++ paths)) ∙ end_append itself None old.skipped paths ∙ ap (λ l. end_of itself l paths) (last_of old.skipped)
 
 module _ {start : Intake} {first : Option (List ℕ)} {old now : Offered} {intake : Intake} {here : Option (List ℕ)} (before : ArePaths None old.skipped) (t : TakenPaths start first old now intake here) where
   -- all that are skipped rise
   pub paths_rise : ArePaths None now.skipped
   paths_rise =
-      subst (ArePaths None) (sym (ap (λ (d : Offered). d.skipped) t.kept)) (paths_join None old.skipped t.paths before (subst (λ l. ArePaths l t.paths) (sym (end_of_is old.skipped)) t.are))
+      subst (ArePaths None) (sym (ap (λ (d : Offered). d.skipped) t.kept)) (join itself IsNext None old.skipped t.paths before (subst (λ l. ArePaths l t.paths) (sym (last_of old.skipped)) t.are))
 
   paths_reach : (rest : List ℕ) → Reaches (IsSkippedText (last_skipped old)) (flat_map skipped_line t.paths ++ rest) (IsSkippedText (last_skipped now)) rest (length t.paths)
   paths_reach rest =
@@ -160,7 +154,7 @@ module _ {start : Intake} {first : Option (List ℕ)} {old now : Offered} {intak
       let line = taken_then (taken_asked intake mid here on a b asked) h.2 (skipped_line h.0) 1 refl refl in
       record {
         paths = ps;
-        are = paths_push (last_skipped old) t.paths h.0 t.are (subst (λ l. IsNext l h.0) (last_now old now t.paths t.kept) h.1);
+        are = push itself IsNext (last_skipped old) t.paths h.0 t.are (subst (λ l. IsNext l h.0) (last_now old now t.paths t.kept) h.1);
         kept = h.3 ∙ (λ i. record (t.kept i) { skipped = whole i });
         taken = taken_then t.taken line (flat_map skipped_line ps) (length ps) (lines_append skipped_line t.paths h.0) (sym (length_push t.paths h.0));
       }
@@ -177,7 +171,7 @@ module _ {start : Intake} {first : Option (List ℕ)} {old now : Offered} {intak
       let last = last_skipped now in
       let ok : IsLastPath last = last_is now paths_rise in
       lacks_after t.taken paths_reach there begin a c f same
-      (lacks_first (skipped_some last) (skipped_back last) (skipped_grammar last ok) (skipped_code last ok) intake mid here on there a b c f asked unfailed h)
+      (lacks_first (skipped_grammar last ok) (skipped_code last ok) (skipped_some last) (skipped_back last) intake mid here on there a b c f asked unfailed h)
 
 -- some rows
 pub record TakenRows (start : Intake) (first : Option (List ℕ)) (now : Offered) (intake : Intake) (here : Option (List ℕ)) : Type 0 where
@@ -212,11 +206,11 @@ heading_now last now mid after on there b s laid y same h = subst (λ (l : Optio
 
 module _ {start : Intake} {first : Option (List ℕ)} {now : Offered} {intake : Intake} {here : Option (List ℕ)} (t : TakenRows start first now intake here) where
   pub last_ok : IsLast (last_word now)
-  last_ok = subst IsLast (end_word_is now.rows) (word_stays None now.rows tt t.are)
+  last_ok = subst IsLast (end_is row_word now.rows) (stays row_word IsRow IsLast (λ last r l. l.word) None now.rows tt t.are)
 
   rows_reach : (rest : List ℕ) → Reaches (IsRowsText None) (flat_map row_text now.rows ++ rest) (IsRowsText (last_word now)) rest (lines_of now.rows)
   rows_reach rest =
-      subst (λ l. Reaches (IsRowsText None) (flat_map row_text now.rows ++ rest) (IsRowsText l) rest (lines_of now.rows)) (end_word_is now.rows) (reach_rows None now.rows tt t.are rest)
+      subst (λ l. Reaches (IsRowsText None) (flat_map row_text now.rows ++ rest) (IsRowsText l) rest (lines_of now.rows)) (end_is row_word now.rows) (reach_rows None now.rows tt t.are rest)
 
   pub rows_end : (after : Intake) (there : Option (List ℕ)) (a b c d : ℕ) → IsLongAsked intake after here there a b (Ok false) → TakesRows now start after first there c d (Ok tt)
   rows_end after there a b c d asked =
@@ -232,7 +226,7 @@ module _ {start : Intake} {first : Option (List ℕ)} {now : Offered} {intake : 
   rows_stop mid on there begin a b c f asked same unfailed h =
       let last = last_word now in
       lacks_after t.taken rows_reach there begin a c f same
-      (lacks_first (rows_some last) (rows_back last) (rows_grammar last) (heading_code last last_ok) intake mid here on there a b c f asked unfailed h)
+      (lacks_first (rows_grammar last) (heading_code last last_ok) (rows_some last) (rows_back last) intake mid here on there a b c f asked unfailed h)
 
   module _ (mid after : Intake) (on there : Option (List ℕ)) (a b : ℕ) (asked : IsLongAsked intake mid here on a b (Ok true)) (laid : List ℕ) (x : Heading) (is : IsHeading (last_word now) x) (line : IsTaken (heading_text x) 1 mid after on there) where
     heading_taken : IsTaken (flat_map row_text now.rows ++ heading_text x) (lines_of now.rows + 1) start after first there
@@ -269,13 +263,13 @@ module _ {start : Intake} {first : Option (List ℕ)} {now : Offered} {intake : 
         let k : IsHeading (last_word now) (word laid n) = subst (IsHeading (last_word now)) s.2 is in
         let row : Row = record { word = laid; hits = h.0 } in
         let rows : new.rows ≡ now.rows ++ row ∷ [] = ap (λ (d : Offered). d.rows) h.4 in
-        let above = subst (λ o. IsAbove o laid) (sym (end_word_is now.rows)) k.0.1 in
+        let above = subst (λ o. IsAbove o laid) (sym (end_is row_word now.rows)) k.0.1 in
         let some : 1 ≤ length h.0 = omega (arith, h.1, k.1) in
         let prefix : heading_text x ≡ word_line row = ap heading_text s.2 ∙ ap (λ k. laid ++ codes " " ++ numeral k ++ newline) (sym h.1) in
         let text : (flat_map row_text now.rows ++ heading_text x) ++ flat_map hit_line h.0 ≡ flat_map row_text new.rows =
         append_assoc (flat_map row_text now.rows) (heading_text x) (flat_map hit_line h.0) ∙ ap (λ l. flat_map row_text now.rows ++ (l ++ flat_map hit_line h.0)) prefix ∙ lines_append row_text now.rows row ∙ ap (flat_map row_text) (sym rows) in
         record {
-          are = subst (AreRows None) (sym rows) (rows_push None now.rows row t.are (record { word = k.0.0; above = above; many = some; hits = h.2 }));
+          are = subst (AreRows None) (sym rows) (push row_word IsRow None now.rows row t.are (record { word = k.0.0; above = above; many = some; hits = h.2 }));
           hits = ap (λ (d : Offered). d.hits) h.4;
           skips = ap (λ (d : Offered). d.skipped) h.4 ∙ t.skips;
           taken = taken_then heading_taken h.3 (flat_map row_text new.rows) (lines_of new.rows) text (omega (arith, h.1, lines_push now.rows row, ap lines_of rows));

@@ -6,7 +6,7 @@ use Rattle.exact_text.specs.declared.intake.Intake.{Intake}
 use Rattle.exact_text.specs.declared.fault.TextFault.{TextFault}
 use Rattle.exact_text.specs.declared.fault.TextFault.TheVariants.{Memory, BadLine, TooLong, Read}
 use Rattle.exact_text.specs.Exact.{OrMemory, HasReason, bytes_room}
-use Rattle.exact_text.specs.Intake.{rest_of, room_of}
+use Rattle.exact_text.specs.Intake.{IsFilled, IsAsked, rest_of, room_of}
 use Rattle.exact_text.specs.Long.{IsLongFilled, IsLongAsked}
 use Rattle.word_index.specs.Index.{Row}
 use Rattle.index_print.specs.Text.{skipped_line}
@@ -14,7 +14,9 @@ use Rattle.index_text.specs.Texts.{ReadsAs, IsIndexText, AreRows, ArePaths, row_
 use Rattle.index_text.specs.Steps.{IsRowsText}
 use Rattle.index_text.specs.Takes.{Lacks, IsAll}
 use Rattle.index_text.specs.Faults.{HasReasonIn}
-use Rattle.index_text.proofs.Loops.{reach_same}
+use Rattle.exact_text.proofs.Reaches.{reach_same}
+use Rattle.exact_text.proofs.Stuck.{nothing_held}
+use Rattle.exact_text.proofs.Texts.{or_map}
 use Rattle.index_text.proofs.Reasons.{lacks_after, lacks_asked, taken_filled, all_after}
 
 to_rows : (bytes : List ℕ) → IsIndexText bytes → IsRowsText None bytes
@@ -26,11 +28,7 @@ from_rows bytes t = (t.0, t.1, record { rows = t.2; skipped = t.3; text = t.4 })
 -- nothing of the source was read
 module _ (start : Intake) (left : Option (List ℕ)) (most : ℕ) (none : start.window ≡ []) (given : start.given ≡ 0) (budget : start.budget ≡ most) (lines : start.lines ≡ 0) where
   rest_is : rest_of start left ≡ left
-  rest_is = ap (λ w. prepend_known w left) none ∙ whole left
-    where
-      whole : (r : Option (List ℕ)) → prepend_known [] r ≡ r
-      whole None = refl
-      whole (Some xs) = refl
+  rest_is = nothing_held start.window left none
 
   room_is : room_of start ≡ most
   room_is = omega (arith, given, budget, ap length none)
@@ -43,13 +41,9 @@ module _ (start : Intake) (left : Option (List ℕ)) (most : ℕ) (none : start.
 
   -- the first bytes don't come
   pub first_fault : (mid : Intake) (left' : Option (List ℕ)) (before now : ℕ) (f : TextFault) → IsLongFilled start mid left left' before now (Err f) → HasReasonIn most left left' before now f
-  first_fault mid left' before now f h = reason left' before now f (lacks_asked ([], ([], [], record { rows = tt; skipped = tt; text = refl })) start mid left left' before now f (by f h))
-    where
-      by : (f : TextFault) → IsLongFilled start mid left left' before now (Err f) → IsLongAsked start mid left left' before now (Err f)
-      by Memory h = tt
-      by (BadLine k) h = (none, h)
-      by TooLong h = (none, h)
-      by Read h = (none, h)
+  first_fault mid left' before now f h =
+      reason left' before now f (lacks_asked ([], ([], [], record { rows = tt; skipped = tt; text = refl })) start mid left left' before now f
+      (or_map (λ f. IsFilled start mid left left' before now (Err f)) (λ f. IsAsked start mid left left' before now (Err f)) (λ f h. (none, h)) f h))
 
   module _ (mid : Intake) (left1 left' : Option (List ℕ)) (first before : ℕ) (more : Bool) (filled : IsLongFilled start mid left left1 first before (Ok more)) where
     -- why no rows were taken

@@ -30,6 +30,11 @@ abbrev pub IsAbove : Option (List ℕ) → List ℕ → Type 0
 IsAbove None text = Unit {0}
 IsAbove (Some last) text = IsBelow last text
 
+-- each is lawful after the key of the one before it, from the last one on
+abbrev pub AreInTurn : {X : Type 0} → (Option (List ℕ) → X → Type 0) → (X → List ℕ) → Option (List ℕ) → List X → Type 0
+AreInTurn lawful key last [] = Unit {0}
+AreInTurn lawful key last (x ∷ xs) = lawful last x × AreInTurn lawful key (Some (key x)) xs
+
 pub record IsHit (last : Option (List ℕ)) (hit : Hit) : Type 0 where
   pub path : IsPath hit.path
   pub above : IsAbove last hit.path
@@ -38,8 +43,7 @@ pub record IsHit (last : Option (List ℕ)) (hit : Hit) : Type 0 where
 
 -- the paths of hits rise from the last one on
 abbrev pub AreHits : Option (List ℕ) → List Hit → Type 0
-AreHits last [] = Unit {0}
-AreHits last (hit ∷ hits) = IsHit last hit × AreHits (Some hit.path) hits
+AreHits = AreInTurn IsHit (λ hit. hit.path)
 
 pub record IsRow (last : Option (List ℕ)) (row : Row) : Type 0 where
   pub word : IsWord row.word
@@ -49,13 +53,11 @@ pub record IsRow (last : Option (List ℕ)) (row : Row) : Type 0 where
 
 -- the words of rows rise from the last one on
 abbrev pub AreRows : Option (List ℕ) → List Row → Type 0
-AreRows last [] = Unit {0}
-AreRows last (row ∷ rows) = IsRow last row × AreRows (Some row.word) rows
+AreRows = AreInTurn IsRow (λ row. row.word)
 
 -- skipped paths rise from the last one on
 abbrev pub ArePaths : Option (List ℕ) → List (List ℕ) → Type 0
-ArePaths last [] = Unit {0}
-ArePaths last (path ∷ paths) = (IsPath path × IsAbove last path) × ArePaths (Some path) paths
+ArePaths = AreInTurn (λ last path. IsPath path × IsAbove last path) (λ path. path)
 
 -- a word and the number of its files, however large
 abbrev pub word_line : Row → List ℕ

@@ -48,9 +48,7 @@ is_legal _ = ⊥
 
 never_legal : (s : Summary) (f : TextFault) → Legal s ≡ refusal f → ⊥
 never_legal s (fault.BadLine k) e = subst is_legal e tt
-never_legal s fault.TooLong e = subst is_legal e tt
-never_legal s fault.Read e = subst is_legal e tt
-never_legal s fault.Memory e = subst is_legal e tt
+never_legal s _ e = subst is_legal e tt
 
 -- of a legal trace it is kept what it nests
 pub noted_of : {W : Type 0} (keeps : W → Layout → List Event → W → Type 0) (budget : ℕ) (left : Option (List ℕ)) (w : W) (layout : Option Layout) (failed : Option Event) (s : Summary) (w' : W) (k : LockGraph)

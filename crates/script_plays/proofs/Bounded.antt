@@ -130,24 +130,9 @@ life_put f k x u le = elim (eqb_tells u k) [
 ]
 
 life_le : (s : Spec) (t : ℕ) (a : Action) → MayAct s (record { thread = record { 0 = t }; action = a }) → (u : ℕ) → to_end ((acted t s a).life u) ≤ to_end (s.life u)
-life_le s t (action.Acquire m) may u = omega arith
-life_le s t (action.Release m) may u = omega arith
-life_le s t (action.Enqueue m c) may u = omega arith
-life_le s t (action.Resume m c) may u = omega arith
-life_le s t (action.AlertEnqueue m c) may u = omega arith
-life_le s t (action.AlertReturn m c) may u = omega arith
-life_le s t (action.AlertRaise m c) may u = omega arith
-life_le s t (action.Signal c left) may u = omega arith
-life_le s t (action.Broadcast c) may u = omega arith
-life_le s t (action.P x) may u = omega arith
-life_le s t (action.V x) may u = omega arith
-life_le s t (action.Alert who) may u = omega arith
-life_le s t (action.TestAlert answer) may u = omega arith
-life_le s t (action.AlertPReturn x) may u = omega arith
-life_le s t (action.AlertPRaise x) may u = omega arith
 life_le s t (action.Fork who) may u = life_put s.life who.0 Live u (subst (λ (z : Life). 1 ≤ to_end z) (sym may.requires_met) (omega arith))
 life_le s t action.End may u = life_put s.life t Ended u (omega arith)
-life_le s t (action.Join who) may u = omega arith
+life_le s t _ may u = omega arith
 
 end_lt : (s : Spec) (t : ℕ) → s.life t ≡ Live → to_end (put s.life t Ended t) < to_end (s.life t)
 end_lt s t live = subst (λ (z : Life). to_end z < to_end (s.life t)) (sym (put_here s.life t Ended)) (subst (λ (z : Life). 0 < to_end z) (sym live) (omega arith))
@@ -170,18 +155,12 @@ one_stays : (a b : Action) → (let x : Choice = record { action = a; turn = Sta
 one_stays a b e part = subst IsWaitPart (sym (ap (λ (z : Choice). z.action) e)) part
 
 stays_made : (o : Operation) (a : Action) → MayMake o (record { action = a; turn = Stays }) → IsWaitPart a
-stays_made (Acquire m) a h = elim h [ inl e ↦ no_next a _ _ e | inr n ↦ absurd n ]
-stays_made (Release m) a h = elim h [ inl e ↦ no_next a _ _ e | inr n ↦ absurd n ]
 stays_made (Wait m c) a h = elim h [ inl e ↦ one_stays a (action.Enqueue m c) e tt | inr k ↦ elim k [ inl e ↦ no_next a _ _ e | inr n ↦ absurd n ] ]
 stays_made (AlertWait m c) a h = elim h [
   | inl e ↦ one_stays a (action.AlertEnqueue m c) e tt
   | inr k ↦ elim k [ inl e ↦ no_next a _ _ e | inr j ↦ elim j [ inl e ↦ no_next a _ _ e | inr n ↦ absurd n ] ]
 ]
 stays_made (Signal c) a h = no_next a (action.Signal c h.0) _ h.1
-stays_made (Broadcast c) a h = elim h [ inl e ↦ no_next a _ _ e | inr n ↦ absurd n ]
-stays_made (P s) a h = elim h [ inl e ↦ no_next a _ _ e | inr n ↦ absurd n ]
-stays_made (V s) a h = elim h [ inl e ↦ no_next a _ _ e | inr n ↦ absurd n ]
-stays_made (Alert u) a h = elim h [ inl e ↦ no_next a _ _ e | inr n ↦ absurd n ]
 stays_made TestAlert a h = elim h [ inl e ↦ no_next a _ _ e | inr k ↦ elim k [ inl e ↦ no_next a _ _ e | inr n ↦ absurd n ] ]
 stays_made (AlertP s) a h = elim h [ inl e ↦ no_next a _ _ e | inr k ↦ elim k [ inl e ↦ no_next a _ _ e | inr n ↦ absurd n ] ]
 stays_made (Add m n) a h = absurd h
@@ -190,8 +169,7 @@ stays_made (AlertUntil m c n) a h = elim h [
   | inl e ↦ one_stays a (action.AlertEnqueue m c) e tt
   | inr k ↦ elim k [ inl e ↦ one_stays a (action.AlertReturn m c) e tt | inr j ↦ elim j [ inl e ↦ no_next a _ _ e | inr z ↦ absurd z ] ]
 ]
-stays_made (Fork u) a h = elim h [ inl e ↦ no_next a _ _ e | inr n ↦ absurd n ]
-stays_made (Join u) a h = elim h [ inl e ↦ no_next a _ _ e | inr n ↦ absurd n ]
+stays_made _ a h = elim h [ inl e ↦ no_next a _ _ e | inr n ↦ absurd n ]
 
 stays_given : (v : Version) (rest : List Line) (a : Action) → Gives v rest (record { action = a; turn = Stays }) → (a ≡ action.End) ⊎ IsWaitPart a
 stays_given One [] a h = absurd h
@@ -250,20 +228,7 @@ phase_lt s t (action.AlertReturn m c) may part =
       inside_phase (s.pending t) (AlertWaiting m c) (λ k. s.members k t) c.0 false may.order (λ g. refl) may.when_met.1,
       no_phase (put s.pending t Nothing t) (λ k. s.members k t) (put_here s.pending t Nothing),
     )
-phase_lt s t (action.Acquire m) may part = absurd part
-phase_lt s t (action.Release m) may part = absurd part
-phase_lt s t (action.AlertRaise m c) may part = absurd part
-phase_lt s t (action.Signal c left) may part = absurd part
-phase_lt s t (action.Broadcast c) may part = absurd part
-phase_lt s t (action.P x) may part = absurd part
-phase_lt s t (action.V x) may part = absurd part
-phase_lt s t (action.Alert who) may part = absurd part
-phase_lt s t (action.TestAlert answer) may part = absurd part
-phase_lt s t (action.AlertPReturn x) may part = absurd part
-phase_lt s t (action.AlertPRaise x) may part = absurd part
-phase_lt s t (action.Fork who) may part = absurd part
-phase_lt s t action.End may part = absurd part
-phase_lt s t (action.Join who) may part = absurd part
+phase_lt s t _ may part = absurd part
 
 phase_same : (s : Spec) (t : ℕ) (a : Action) → IsWaitPart a → (u : ℕ) → u ≢ t → phase (acted t s a) u ≡ phase s u
 phase_same s t (action.Enqueue m c) part u ne = phase_alike (put s.pending t (Waiting m c) u) (s.pending u) (λ k. put s.members c.0 (put (s.members c.0) t true) k u) (λ k. s.members k u)
@@ -272,20 +237,7 @@ phase_same s t (action.Resume m c) part u ne = ap (λ p. phase_of p (λ k. s.mem
 phase_same s t (action.AlertEnqueue m c) part u ne = phase_alike (put s.pending t (AlertWaiting m c) u) (s.pending u) (λ k. put s.members c.0 (put (s.members c.0) t true) k u) (λ k. s.members k u)
     (put_other s.pending t (AlertWaiting m c) u ne) (member_other s.members c.0 t true u ne)
 phase_same s t (action.AlertReturn m c) part u ne = ap (λ p. phase_of p (λ k. s.members k u)) (put_other s.pending t Nothing u ne)
-phase_same s t (action.Acquire m) part u ne = absurd part
-phase_same s t (action.Release m) part u ne = absurd part
-phase_same s t (action.AlertRaise m c) part u ne = absurd part
-phase_same s t (action.Signal c left) part u ne = absurd part
-phase_same s t (action.Broadcast c) part u ne = absurd part
-phase_same s t (action.P x) part u ne = absurd part
-phase_same s t (action.V x) part u ne = absurd part
-phase_same s t (action.Alert who) part u ne = absurd part
-phase_same s t (action.TestAlert answer) part u ne = absurd part
-phase_same s t (action.AlertPReturn x) part u ne = absurd part
-phase_same s t (action.AlertPRaise x) part u ne = absurd part
-phase_same s t (action.Fork who) part u ne = absurd part
-phase_same s t action.End part u ne = absurd part
-phase_same s t (action.Join who) part u ne = absurd part
+phase_same s t _ part u ne = absurd part
 
 phases_few : (s : Spec) (n : ℕ) → sum_below (phase s) n ≤ 2 * n
 phases_few s n = sum_of (phase s) n 2 (λ t. phase_few (s.pending t) (λ c. s.members c t))
@@ -374,8 +326,7 @@ lines_in_all n (x ∷ xs) =
 
 end_few : (x : Life) → to_end x ≤ 1
 end_few Unborn = omega arith
-end_few Live = omega arith
-end_few Ended = omega arith
+end_few _ = omega arith
 
 rank_first : (l : Layout) (xs : List Line) → rank l xs (first_scene l.version) ≤ (2 * l.threads + 1) * (length xs + l.threads) + l.threads
 rank_first l xs =

@@ -35,24 +35,11 @@ use Rattle.script_plays.proofs.Swapping.{ForksOther, unborn_live, live_ended, un
 
 -- the thread of an event that may be looked at alone is in no wait, and takes no mutex
 pub alone_idle : (a : Action) (p : Pending) → is_alone a ≡ true → KeepsOrder p a → p ≡ Nothing
-alone_idle (action.Acquire k) p alone order = absurd (cc)
 alone_idle (action.Release k) p alone order = order
-alone_idle (action.Enqueue k c) p alone order = absurd (cc)
-alone_idle (action.Resume k c) p alone order = absurd (cc)
-alone_idle (action.AlertEnqueue k c) p alone order = absurd (cc)
-alone_idle (action.AlertReturn k c) p alone order = absurd (cc)
-alone_idle (action.AlertRaise k c) p alone order = absurd (cc)
-alone_idle (action.Signal c left) p alone order = absurd (cc)
-alone_idle (action.Broadcast c) p alone order = absurd (cc)
-alone_idle (action.P x) p alone order = absurd (cc)
-alone_idle (action.V x) p alone order = absurd (cc)
-alone_idle (action.Alert who) p alone order = absurd (cc)
-alone_idle (action.TestAlert answer) p alone order = absurd (cc)
-alone_idle (action.AlertPReturn x) p alone order = absurd (cc)
-alone_idle (action.AlertPRaise x) p alone order = absurd (cc)
 alone_idle (action.Fork who) p alone order = order
 alone_idle action.End p alone order = order
 alone_idle (action.Join who) p alone order = order
+alone_idle _ p alone order = absurd (cc)
 
 pub alone_mine : (a : Action) (mine : Mine) (m : ℕ) → is_alone a ≡ true → mine_by a mine m ≡ true → mine m ≡ true
 alone_mine (action.Acquire k) mine m alone has = absurd (cc)
@@ -79,22 +66,10 @@ module _ (s : Spec) (u : ℕ) (mine : Mine) (holds : Holds mine s u) (m t : ℕ)
   pub foreign : (b : Action) → MayAct s (event u b) → mine_by b mine m ≡ false
   foreign (action.Acquire k) may = rw (free_other k.0 may.when_met) (idle_mine may.order)
   foreign (action.Release k) may = elim (known (eqb k.0 m)) [ inl here ↦ rw here refl | inr other ↦ rw other (idle_mine may.order) ]
-  foreign (action.Enqueue k c) may = idle_mine may.order
   foreign (action.Resume k c) may = not_mine (ap (λ p. waits_on p m) may.order ∙ free_other k.0 may.when_met.0)
-  foreign (action.AlertEnqueue k c) may = idle_mine may.order
   foreign (action.AlertReturn k c) may = not_mine (ap (λ p. waits_on p m) may.order ∙ free_other k.0 may.when_met.0)
   foreign (action.AlertRaise k c) may = not_mine (ap (λ p. waits_on p m) may.order ∙ free_other k.0 may.when_met.0)
-  foreign (action.Signal c left) may = idle_mine may.order
-  foreign (action.Broadcast c) may = idle_mine may.order
-  foreign (action.P x) may = idle_mine may.order
-  foreign (action.V x) may = idle_mine may.order
-  foreign (action.Alert who) may = idle_mine may.order
-  foreign (action.TestAlert answer) may = idle_mine may.order
-  foreign (action.AlertPReturn x) may = idle_mine may.order
-  foreign (action.AlertPRaise x) may = idle_mine may.order
-  foreign (action.Fork who) may = idle_mine may.order
-  foreign action.End may = idle_mine may.order
-  foreign (action.Join who) may = idle_mine may.order
+  foreign _ may = idle_mine may.order
 
 -- each scene of a play is one in which the threads hold what they have by their lines
 pub own_goes : (l : Layout) (xs : List Line) (s : Scene) (e : Event) (v : Scene) → AllOwn xs s → Goes l xs s e v → AllOwn xs v
@@ -210,22 +185,8 @@ one_forks l h f t u k (x ∷ xs) follow a b =
 
 -- an event that forks is that of such a line
 made_fork : (o : Operation) (who : ThreadId) (turn : Turn) → MayMake o (record { action = action.Fork who; turn = turn }) → ForksIt o who.0
-made_fork (Acquire m) who turn made = grind arith
-made_fork (Release m) who turn made = grind arith
-made_fork (Wait m c) who turn made = grind arith
-made_fork (AlertWait m c) who turn made = grind arith
-made_fork (Signal c) who turn made = grind arith
-made_fork (Broadcast c) who turn made = grind arith
-made_fork (P s) who turn made = grind arith
-made_fork (V s) who turn made = grind arith
-made_fork (Alert u) who turn made = grind arith
-made_fork TestAlert who turn made = grind arith
-made_fork (AlertP s) who turn made = grind arith
 made_fork (Add m n) who turn made = absurd made
-made_fork (Until m c n) who turn made = grind arith
-made_fork (AlertUntil m c n) who turn made = grind arith
-made_fork (Fork u) who turn made = grind arith
-made_fork (Join u) who turn made = grind arith
+made_fork _ who turn made = grind arith
 
 gives_fork : (v : Version) (rest : List Line) (who : ThreadId) (turn : Turn) → Gives v rest (record { action = action.Fork who; turn = turn }) → Forks who.0 rest
 gives_fork One [] who turn gives = absurd gives
@@ -235,22 +196,8 @@ gives_fork Two (x ∷ rest) who turn gives = inl (made_fork x.operation who turn
 
 -- a thread that has an event that may be looked at alone has no other event
 made_alone : (o : Operation) (a b : Action) (turn other : Turn) → is_alone a ≡ true → MayMake o (record { action = a; turn = turn }) → MayMake o (record { action = b; turn = other }) → b ≡ a
-made_alone (Acquire m) a b turn other alone made makes = grind arith
-made_alone (Release m) a b turn other alone made makes = grind arith
-made_alone (Wait m c) a b turn other alone made makes = grind arith
-made_alone (AlertWait m c) a b turn other alone made makes = grind arith
-made_alone (Signal c) a b turn other alone made makes = grind arith
-made_alone (Broadcast c) a b turn other alone made makes = grind arith
-made_alone (P s) a b turn other alone made makes = grind arith
-made_alone (V s) a b turn other alone made makes = grind arith
-made_alone (Alert u) a b turn other alone made makes = grind arith
-made_alone TestAlert a b turn other alone made makes = grind arith
-made_alone (AlertP s) a b turn other alone made makes = grind arith
 made_alone (Add m n) a b turn other alone made makes = absurd made
-made_alone (Until m c n) a b turn other alone made makes = grind arith
-made_alone (AlertUntil m c n) a b turn other alone made makes = grind arith
-made_alone (Fork u) a b turn other alone made makes = grind arith
-made_alone (Join u) a b turn other alone made makes = grind arith
+made_alone _ a b turn other alone made makes = grind arith
 
 pub gives_alone : (v : Version) (rest : List Line) (a b : Action) (turn other : Turn) → is_alone a ≡ true → Gives v rest (record { action = a; turn = turn }) → Gives v rest (record { action = b; turn = other }) → b ≡ a
 gives_alone One [] a b turn other alone given gives = absurd given
@@ -266,24 +213,8 @@ pub record Swaps (s : Spec) (t u : ℕ) (a b : Action) : Type 0 where
 
 module _ (s : Spec) (t u : ℕ) (ne : t ≢ u) where
   forks_other : (b : Action) → MayAct s (event u b) → (k : ℕ) → s.life k ≢ Unborn → ForksOther b k
-  forks_other (action.Acquire k) may j born = tt
-  forks_other (action.Release k) may j born = tt
-  forks_other (action.Enqueue k c) may j born = tt
-  forks_other (action.Resume k c) may j born = tt
-  forks_other (action.AlertEnqueue k c) may j born = tt
-  forks_other (action.AlertReturn k c) may j born = tt
-  forks_other (action.AlertRaise k c) may j born = tt
-  forks_other (action.Signal c left) may j born = tt
-  forks_other (action.Broadcast c) may j born = tt
-  forks_other (action.P x) may j born = tt
-  forks_other (action.V x) may j born = tt
-  forks_other (action.Alert who) may j born = tt
-  forks_other (action.TestAlert answer) may j born = tt
-  forks_other (action.AlertPReturn x) may j born = tt
-  forks_other (action.AlertPRaise x) may j born = tt
   forks_other (action.Fork who) may j born = λ e. born (ap s.life (sym e) ∙ may.requires_met)
-  forks_other action.End may j born = tt
-  forks_other (action.Join who) may j born = tt
+  forks_other _ may j born = tt
 
   still_live : (b : Action) → MayAct s (event u b) → s.life t ≡ Live → (acted u s b).life t ≡ Live
   still_live b may live = life_stays s u b t ne (forks_other b may t (λ e. unborn_live (sym e ∙ live))) ∙ live
@@ -339,44 +270,15 @@ module _ (s : Spec) (t u : ℕ) (ne : t ≢ u) where
         early = also;
         same = refl;
       }
-  acts_swap (action.Acquire k) b alone may also other = absurd (cc)
-  acts_swap (action.Enqueue k c) b alone may also other = absurd (cc)
-  acts_swap (action.Resume k c) b alone may also other = absurd (cc)
-  acts_swap (action.AlertEnqueue k c) b alone may also other = absurd (cc)
-  acts_swap (action.AlertReturn k c) b alone may also other = absurd (cc)
-  acts_swap (action.AlertRaise k c) b alone may also other = absurd (cc)
-  acts_swap (action.Signal c left) b alone may also other = absurd (cc)
-  acts_swap (action.Broadcast c) b alone may also other = absurd (cc)
-  acts_swap (action.P x) b alone may also other = absurd (cc)
-  acts_swap (action.V x) b alone may also other = absurd (cc)
-  acts_swap (action.Alert who) b alone may also other = absurd (cc)
-  acts_swap (action.TestAlert answer) b alone may also other = absurd (cc)
-  acts_swap (action.AlertPReturn x) b alone may also other = absurd (cc)
-  acts_swap (action.AlertPRaise x) b alone may also other = absurd (cc)
+  acts_swap _ b alone may also other = absurd (cc)
 
 module _ (l : Layout) (xs : List Line) (script : IsScript l xs) where
   pub forks_apart : (s : Scene) (t u : ℕ) (a b : Action) (turn other : Turn) → t ≢ u
       → Gives l.version (rest_of xs s.played t) (record { action = a; turn = turn }) → Gives l.version (rest_of xs s.played u) (record { action = b; turn = other })
       → (who : ThreadId) → a ≡ action.Fork who → ForksOther b who.0
-  forks_apart s t u a (action.Acquire k) turn other ne given gives who is = tt
-  forks_apart s t u a (action.Release k) turn other ne given gives who is = tt
-  forks_apart s t u a (action.Enqueue k c) turn other ne given gives who is = tt
-  forks_apart s t u a (action.Resume k c) turn other ne given gives who is = tt
-  forks_apart s t u a (action.AlertEnqueue k c) turn other ne given gives who is = tt
-  forks_apart s t u a (action.AlertReturn k c) turn other ne given gives who is = tt
-  forks_apart s t u a (action.AlertRaise k c) turn other ne given gives who is = tt
-  forks_apart s t u a (action.Signal c left) turn other ne given gives who is = tt
-  forks_apart s t u a (action.Broadcast c) turn other ne given gives who is = tt
-  forks_apart s t u a (action.P x) turn other ne given gives who is = tt
-  forks_apart s t u a (action.V x) turn other ne given gives who is = tt
-  forks_apart s t u a (action.Alert z) turn other ne given gives who is = tt
-  forks_apart s t u a (action.TestAlert answer) turn other ne given gives who is = tt
-  forks_apart s t u a (action.AlertPReturn x) turn other ne given gives who is = tt
-  forks_apart s t u a (action.AlertPRaise x) turn other ne given gives who is = tt
   forks_apart s t u a (action.Fork other_who) turn other ne given gives who is = λ e.
       let mine = gives_fork l.version (rest_of xs s.played t) who turn (subst (λ (z : Action). Gives l.version (rest_of xs s.played t) (record { action = z; turn = turn })) is given) in
       let theirs = gives_fork l.version (rest_of xs s.played u) other_who other gives in
       ne (one_forks l none_held none_forked t u who.0 xs script.follow (forks_drop who.0 (s.played t) (lines_of t xs) mine)
       (forks_drop who.0 (s.played u) (lines_of u xs) (subst (λ k. Forks k (rest_of xs s.played u)) e theirs)))
-  forks_apart s t u a action.End turn other ne given gives who is = tt
-  forks_apart s t u a (action.Join z) turn other ne given gives who is = tt
+  forks_apart s t u a _ turn other ne given gives who is = tt

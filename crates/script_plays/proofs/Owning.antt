@@ -50,9 +50,7 @@ AreOwn mine (x ∷ xs) = MayHave (use_of x.operation) mine × AreOwn (mine_with 
 -- lines that may come one after another are such for each thread
 use_mine : (h : Holding) (t : ℕ) (u : Use) → MayUse h t u → MayHave u (h t)
 use_mine h t (Takes m) may = may
-use_mine h t (Frees m) may = may
-use_mine h t (Needs m) may = may
-use_mine h t NoUse may = may
+use_mine h t _ may = may
 
 mine_after : (h : Holding) (t : ℕ) (u : Use) → mine_with u (h t) ≡ holding_with h t u t
 mine_after h t (Takes m) = λ i n. sym (ap (λ b. cond b (cond (eqb m.0 n) true (h t n)) (h t n)) (eq-eqb t t refl)) i
@@ -254,14 +252,4 @@ module _ (s : Spec) (t : ℕ) (mine : Mine) (holds : Holds mine s t) where
   holds_after (action.AlertEnqueue k c) may m has not = freed k.0 m may.order (waiting_on k.0 m (AlertWaiting k c) refl (put_here s.pending t (AlertWaiting k c)) not) has
   holds_after (action.AlertReturn k c) may m has not = resumed k.0 m (ap (λ p. waits_on p m) may.order) has
   holds_after (action.AlertRaise k c) may m has not = resumed k.0 m (ap (λ p. waits_on p m) may.order) has
-  holds_after (action.Signal c left) may m has not = still may.order m has
-  holds_after (action.Broadcast c) may m has not = still may.order m has
-  holds_after (action.P x) may m has not = still may.order m has
-  holds_after (action.V x) may m has not = still may.order m has
-  holds_after (action.Alert who) may m has not = still may.order m has
-  holds_after (action.TestAlert answer) may m has not = still may.order m has
-  holds_after (action.AlertPReturn x) may m has not = still may.order m has
-  holds_after (action.AlertPRaise x) may m has not = still may.order m has
-  holds_after (action.Fork who) may m has not = still may.order m has
-  holds_after action.End may m has not = still may.order m has
-  holds_after (action.Join who) may m has not = still may.order m has
+  holds_after _ may m has not = still may.order m has

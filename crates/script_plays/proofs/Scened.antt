@@ -26,22 +26,8 @@ plays_are_legal l xs h s p = plays_lead l xs (first_scene l.version) h s p
 
 -- what an action says of where its thread is then, whatever the line: the turn of a choice is that of its action
 turn_is : (o : Operation) (a : Action) (t u : Turn) → MayMake o (record { action = a; turn = t }) → MayMake o (record { action = a; turn = u }) → t ≡ u
-turn_is (Acquire m) a t u p q = grind arith
-turn_is (Release m) a t u p q = grind arith
-turn_is (Wait m c) a t u p q = grind arith
-turn_is (AlertWait m c) a t u p q = grind arith
-turn_is (Signal c) a t u p q = grind arith
-turn_is (Broadcast c) a t u p q = grind arith
-turn_is (P s) a t u p q = grind arith
-turn_is (V s) a t u p q = grind arith
-turn_is (Alert who) a t u p q = grind arith
-turn_is TestAlert a t u p q = grind arith
-turn_is (AlertP s) a t u p q = grind arith
 turn_is (Add m n) a t u p q = absurd p
-turn_is (Until m c n) a t u p q = grind arith
-turn_is (AlertUntil m c n) a t u p q = grind arith
-turn_is (Fork who) a t u p q = grind arith
-turn_is (Join who) a t u p q = grind arith
+turn_is _ a t u p q = grind arith
 
 -- an action that its thread's lines give has one turn
 pub gives_one : (v : Version) (rest : List Line) (a : Action) (t u : Turn) → Gives v rest (record { action = a; turn = t }) → Gives v rest (record { action = a; turn = u }) → t ≡ u

@@ -68,17 +68,7 @@ module _ (s : Spec) (u : ℕ) where
   holder_stays (action.AlertEnqueue k c) may m t held ne = put_other s.holder k.0 none m (apart_other s.holder m k.0 t u held may.requires_met ne) ∙ held
   holder_stays (action.AlertReturn k c) may m t held ne = put_other s.holder k.0 (some u) m (apart_none s.holder m k.0 t held may.when_met.0) ∙ held
   holder_stays (action.AlertRaise k c) may m t held ne = put_other s.holder k.0 (some u) m (apart_none s.holder m k.0 t held may.when_met.0) ∙ held
-  holder_stays (action.Signal c left) may m t held ne = held
-  holder_stays (action.Broadcast c) may m t held ne = held
-  holder_stays (action.P x) may m t held ne = held
-  holder_stays (action.V x) may m t held ne = held
-  holder_stays (action.Alert who) may m t held ne = held
-  holder_stays (action.TestAlert answer) may m t held ne = held
-  holder_stays (action.AlertPReturn x) may m t held ne = held
-  holder_stays (action.AlertPRaise x) may m t held ne = held
-  holder_stays (action.Fork who) may m t held ne = held
-  holder_stays action.End may m t held ne = held
-  holder_stays (action.Join who) may m t held ne = held
+  holder_stays _ may m t held ne = held
 
   was_given : (m k t : ℕ) → t ≢ u → put s.holder k (some u) m ≡ some t → s.holder m ≡ some t
   was_given m k t ne held = elim (eqb_tells m k) [
@@ -100,57 +90,20 @@ module _ (s : Spec) (u : ℕ) where
   holder_was (action.AlertEnqueue k c) m t ne held = was_freed m k.0 t held
   holder_was (action.AlertReturn k c) m t ne held = was_given m k.0 t ne held
   holder_was (action.AlertRaise k c) m t ne held = was_given m k.0 t ne held
-  holder_was (action.Signal c left) m t ne held = held
-  holder_was (action.Broadcast c) m t ne held = held
-  holder_was (action.P x) m t ne held = held
-  holder_was (action.V x) m t ne held = held
-  holder_was (action.Alert who) m t ne held = held
-  holder_was (action.TestAlert answer) m t ne held = held
-  holder_was (action.AlertPReturn x) m t ne held = held
-  holder_was (action.AlertPRaise x) m t ne held = held
-  holder_was (action.Fork who) m t ne held = held
-  holder_was action.End m t ne held = held
-  holder_was (action.Join who) m t ne held = held
+  holder_was _ m t ne held = held
 
   pub pending_stays : (a : Action) (t : ℕ) → t ≢ u → (acted u s a).pending t ≡ s.pending t
-  pending_stays (action.Acquire k) t ne = refl
-  pending_stays (action.Release k) t ne = refl
   pending_stays (action.Enqueue k c) t ne = put_other s.pending u (Waiting k c) t ne
   pending_stays (action.Resume k c) t ne = put_other s.pending u Nothing t ne
   pending_stays (action.AlertEnqueue k c) t ne = put_other s.pending u (AlertWaiting k c) t ne
   pending_stays (action.AlertReturn k c) t ne = put_other s.pending u Nothing t ne
   pending_stays (action.AlertRaise k c) t ne = put_other s.pending u Nothing t ne
-  pending_stays (action.Signal c left) t ne = refl
-  pending_stays (action.Broadcast c) t ne = refl
-  pending_stays (action.P x) t ne = refl
-  pending_stays (action.V x) t ne = refl
-  pending_stays (action.Alert who) t ne = refl
-  pending_stays (action.TestAlert answer) t ne = refl
-  pending_stays (action.AlertPReturn x) t ne = refl
-  pending_stays (action.AlertPRaise x) t ne = refl
-  pending_stays (action.Fork who) t ne = refl
-  pending_stays action.End t ne = refl
-  pending_stays (action.Join who) t ne = refl
+  pending_stays _ t ne = refl
 
   pub life_stays : (a : Action) (k : ℕ) → k ≢ u → ForksOther a k → (acted u s a).life k ≡ s.life k
-  life_stays (action.Acquire k) j ne other = refl
-  life_stays (action.Release k) j ne other = refl
-  life_stays (action.Enqueue k c) j ne other = refl
-  life_stays (action.Resume k c) j ne other = refl
-  life_stays (action.AlertEnqueue k c) j ne other = refl
-  life_stays (action.AlertReturn k c) j ne other = refl
-  life_stays (action.AlertRaise k c) j ne other = refl
-  life_stays (action.Signal c left) j ne other = refl
-  life_stays (action.Broadcast c) j ne other = refl
-  life_stays (action.P x) j ne other = refl
-  life_stays (action.V x) j ne other = refl
-  life_stays (action.Alert who) j ne other = refl
-  life_stays (action.TestAlert answer) j ne other = refl
-  life_stays (action.AlertPReturn x) j ne other = refl
-  life_stays (action.AlertPRaise x) j ne other = refl
   life_stays (action.Fork who) j ne other = put_other s.life who.0 Live j (λ e. other (sym e))
   life_stays action.End j ne other = put_other s.life u Ended j ne
-  life_stays (action.Join who) j ne other = refl
+  life_stays _ j ne other = refl
 
   still_free : (m k : ℕ) → s.holder k ≡ none → put s.holder m none k ≡ none
   still_free m k free = elim (eqb_tells k m) [ inl p ↦ ap (λ b. cond b none (s.holder k)) p.0 | inr p ↦ ap (λ b. cond b none (s.holder k)) p.0 ∙ free ]
@@ -164,17 +117,8 @@ module _ (s : Spec) (u : ℕ) where
   may_freed (action.AlertEnqueue k c) may m t held ne = record { live = may.live; order = may.order; requires_met = put_other s.holder m none k.0 (λ e. apart_other s.holder m k.0 t u held may.requires_met ne (sym e)) ∙ may.requires_met; when_met = may.when_met; choice_met = may.choice_met }
   may_freed (action.AlertReturn k c) may m t held ne = record { live = may.live; order = may.order; requires_met = may.requires_met; when_met = (still_free m k.0 may.when_met.0, may.when_met.1); choice_met = may.choice_met }
   may_freed (action.AlertRaise k c) may m t held ne = record { live = may.live; order = may.order; requires_met = may.requires_met; when_met = (still_free m k.0 may.when_met.0, may.when_met.1); choice_met = may.choice_met }
-  may_freed (action.Signal c left) may m t held ne = record { live = may.live; order = may.order; requires_met = may.requires_met; when_met = may.when_met; choice_met = may.choice_met }
-  may_freed (action.Broadcast c) may m t held ne = record { live = may.live; order = may.order; requires_met = may.requires_met; when_met = may.when_met; choice_met = may.choice_met }
-  may_freed (action.P x) may m t held ne = record { live = may.live; order = may.order; requires_met = may.requires_met; when_met = may.when_met; choice_met = may.choice_met }
-  may_freed (action.V x) may m t held ne = record { live = may.live; order = may.order; requires_met = may.requires_met; when_met = may.when_met; choice_met = may.choice_met }
-  may_freed (action.Alert who) may m t held ne = record { live = may.live; order = may.order; requires_met = may.requires_met; when_met = may.when_met; choice_met = may.choice_met }
-  may_freed (action.TestAlert answer) may m t held ne = record { live = may.live; order = may.order; requires_met = may.requires_met; when_met = may.when_met; choice_met = may.choice_met }
-  may_freed (action.AlertPReturn x) may m t held ne = record { live = may.live; order = may.order; requires_met = may.requires_met; when_met = may.when_met; choice_met = may.choice_met }
-  may_freed (action.AlertPRaise x) may m t held ne = record { live = may.live; order = may.order; requires_met = may.requires_met; when_met = may.when_met; choice_met = may.choice_met }
-  may_freed (action.Fork who) may m t held ne = record { live = may.live; order = may.order; requires_met = may.requires_met; when_met = may.when_met; choice_met = may.choice_met }
   may_freed action.End may m t held ne = record { live = may.live; order = may.order; requires_met = λ j has. may.requires_met j (was_freed j m u has); when_met = may.when_met; choice_met = may.choice_met }
-  may_freed (action.Join who) may m t held ne = record { live = may.live; order = may.order; requires_met = may.requires_met; when_met = may.when_met; choice_met = may.choice_met }
+  may_freed _ may m t held ne = record { live = may.live; order = may.order; requires_met = may.requires_met; when_met = may.when_met; choice_met = may.choice_met }
 
   pub swap_freed : (a : Action) → MayAct s (event u a) → (m t : ℕ) → s.holder m ≡ some t → t ≢ u → acted u (with_holder s m none) a ≡ with_holder (acted u s a) m none
   swap_freed (action.Acquire k) may m t held ne = ap (λ f. record (acted u s (action.Acquire k)) { holder = f }) (put_swap s.holder m k.0 none (some u) (apart_none s.holder m k.0 t held may.when_met))
@@ -184,58 +128,18 @@ module _ (s : Spec) (u : ℕ) where
   swap_freed (action.AlertEnqueue k c) may m t held ne = ap (λ f. record (acted u s (action.AlertEnqueue k c)) { holder = f }) (put_swap s.holder m k.0 none none (apart_other s.holder m k.0 t u held may.requires_met ne))
   swap_freed (action.AlertReturn k c) may m t held ne = ap (λ f. record (acted u s (action.AlertReturn k c)) { holder = f }) (put_swap s.holder m k.0 none (some u) (apart_none s.holder m k.0 t held may.when_met.0))
   swap_freed (action.AlertRaise k c) may m t held ne = ap (λ f. record (acted u s (action.AlertRaise k c)) { holder = f }) (put_swap s.holder m k.0 none (some u) (apart_none s.holder m k.0 t held may.when_met.0))
-  swap_freed (action.Signal c left) may m t held ne = refl
-  swap_freed (action.Broadcast c) may m t held ne = refl
-  swap_freed (action.P x) may m t held ne = refl
-  swap_freed (action.V x) may m t held ne = refl
-  swap_freed (action.Alert who) may m t held ne = refl
-  swap_freed (action.TestAlert answer) may m t held ne = refl
-  swap_freed (action.AlertPReturn x) may m t held ne = refl
-  swap_freed (action.AlertPRaise x) may m t held ne = refl
-  swap_freed (action.Fork who) may m t held ne = refl
-  swap_freed action.End may m t held ne = refl
-  swap_freed (action.Join who) may m t held ne = refl
+  swap_freed _ may m t held ne = refl
 
   lives : (k : ℕ) (x : Life) → k ≢ u → s.life u ≡ Live → put s.life k x u ≡ Live
   lives k x ne live = put_other s.life k x u (λ e. ne (sym e)) ∙ live
 
   -- a thread that isn't ended, and that it doesn't fork, may have another life before it
   pub may_lived : (a : Action) → MayAct s (event u a) → (k : ℕ) (x : Life) → k ≢ u → s.life k ≢ Ended → ForksOther a k → MayAct (with_life s k x) (event u a)
-  may_lived (action.Acquire k) may j x ne not other = record { live = lives j x ne may.live; order = may.order; requires_met = may.requires_met; when_met = may.when_met; choice_met = may.choice_met }
-  may_lived (action.Release k) may j x ne not other = record { live = lives j x ne may.live; order = may.order; requires_met = may.requires_met; when_met = may.when_met; choice_met = may.choice_met }
-  may_lived (action.Enqueue k c) may j x ne not other = record { live = lives j x ne may.live; order = may.order; requires_met = may.requires_met; when_met = may.when_met; choice_met = may.choice_met }
-  may_lived (action.Resume k c) may j x ne not other = record { live = lives j x ne may.live; order = may.order; requires_met = may.requires_met; when_met = may.when_met; choice_met = may.choice_met }
-  may_lived (action.AlertEnqueue k c) may j x ne not other = record { live = lives j x ne may.live; order = may.order; requires_met = may.requires_met; when_met = may.when_met; choice_met = may.choice_met }
-  may_lived (action.AlertReturn k c) may j x ne not other = record { live = lives j x ne may.live; order = may.order; requires_met = may.requires_met; when_met = may.when_met; choice_met = may.choice_met }
-  may_lived (action.AlertRaise k c) may j x ne not other = record { live = lives j x ne may.live; order = may.order; requires_met = may.requires_met; when_met = may.when_met; choice_met = may.choice_met }
-  may_lived (action.Signal c left) may j x ne not other = record { live = lives j x ne may.live; order = may.order; requires_met = may.requires_met; when_met = may.when_met; choice_met = may.choice_met }
-  may_lived (action.Broadcast c) may j x ne not other = record { live = lives j x ne may.live; order = may.order; requires_met = may.requires_met; when_met = may.when_met; choice_met = may.choice_met }
-  may_lived (action.P z) may j x ne not other = record { live = lives j x ne may.live; order = may.order; requires_met = may.requires_met; when_met = may.when_met; choice_met = may.choice_met }
-  may_lived (action.V z) may j x ne not other = record { live = lives j x ne may.live; order = may.order; requires_met = may.requires_met; when_met = may.when_met; choice_met = may.choice_met }
-  may_lived (action.Alert who) may j x ne not other = record { live = lives j x ne may.live; order = may.order; requires_met = may.requires_met; when_met = may.when_met; choice_met = may.choice_met }
-  may_lived (action.TestAlert answer) may j x ne not other = record { live = lives j x ne may.live; order = may.order; requires_met = may.requires_met; when_met = may.when_met; choice_met = may.choice_met }
-  may_lived (action.AlertPReturn z) may j x ne not other = record { live = lives j x ne may.live; order = may.order; requires_met = may.requires_met; when_met = may.when_met; choice_met = may.choice_met }
-  may_lived (action.AlertPRaise z) may j x ne not other = record { live = lives j x ne may.live; order = may.order; requires_met = may.requires_met; when_met = may.when_met; choice_met = may.choice_met }
   may_lived (action.Fork who) may j x ne not other = record { live = lives j x ne may.live; order = may.order; requires_met = put_other s.life j x who.0 other ∙ may.requires_met; when_met = may.when_met; choice_met = may.choice_met }
-  may_lived action.End may j x ne not other = record { live = lives j x ne may.live; order = may.order; requires_met = may.requires_met; when_met = may.when_met; choice_met = may.choice_met }
   may_lived (action.Join who) may j x ne not other = record { live = lives j x ne may.live; order = may.order; requires_met = may.requires_met; when_met = put_other s.life j x who.0 (λ e. not (ap s.life (sym e) ∙ may.when_met)) ∙ may.when_met; choice_met = may.choice_met }
+  may_lived _ may j x ne not other = record { live = lives j x ne may.live; order = may.order; requires_met = may.requires_met; when_met = may.when_met; choice_met = may.choice_met }
 
   pub swap_lived : (a : Action) (k : ℕ) (x : Life) → k ≢ u → ForksOther a k → acted u (with_life s k x) a ≡ with_life (acted u s a) k x
-  swap_lived (action.Acquire k) j x ne other = refl
-  swap_lived (action.Release k) j x ne other = refl
-  swap_lived (action.Enqueue k c) j x ne other = refl
-  swap_lived (action.Resume k c) j x ne other = refl
-  swap_lived (action.AlertEnqueue k c) j x ne other = refl
-  swap_lived (action.AlertReturn k c) j x ne other = refl
-  swap_lived (action.AlertRaise k c) j x ne other = refl
-  swap_lived (action.Signal c left) j x ne other = refl
-  swap_lived (action.Broadcast c) j x ne other = refl
-  swap_lived (action.P z) j x ne other = refl
-  swap_lived (action.V z) j x ne other = refl
-  swap_lived (action.Alert who) j x ne other = refl
-  swap_lived (action.TestAlert answer) j x ne other = refl
-  swap_lived (action.AlertPReturn z) j x ne other = refl
-  swap_lived (action.AlertPRaise z) j x ne other = refl
   swap_lived (action.Fork who) j x ne other = ap (λ f. record s { life = f }) (put_swap s.life j who.0 x Live (λ e. other (sym e)))
   swap_lived action.End j x ne other = ap (λ f. record s { life = f }) (put_swap s.life j u x Ended ne)
-  swap_lived (action.Join who) j x ne other = refl
+  swap_lived _ j x ne other = refl

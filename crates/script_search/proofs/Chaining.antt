@@ -43,20 +43,7 @@ alone_members t s (action.Release m) alone = refl
 alone_members t s (action.Fork who) alone = refl
 alone_members t s action.End alone = refl
 alone_members t s (action.Join who) alone = refl
-alone_members t s (action.Acquire m) alone = absurd (cc)
-alone_members t s (action.Enqueue m c) alone = absurd (cc)
-alone_members t s (action.Resume m c) alone = absurd (cc)
-alone_members t s (action.AlertEnqueue m c) alone = absurd (cc)
-alone_members t s (action.AlertReturn m c) alone = absurd (cc)
-alone_members t s (action.AlertRaise m c) alone = absurd (cc)
-alone_members t s (action.Signal c left) alone = absurd (cc)
-alone_members t s (action.Broadcast c) alone = absurd (cc)
-alone_members t s (action.P x) alone = absurd (cc)
-alone_members t s (action.V x) alone = absurd (cc)
-alone_members t s (action.Alert who) alone = absurd (cc)
-alone_members t s (action.TestAlert answer) alone = absurd (cc)
-alone_members t s (action.AlertPReturn x) alone = absurd (cc)
-alone_members t s (action.AlertPRaise x) alone = absurd (cc)
+alone_members t s _ alone = absurd (cc)
 
 module _ (l : Layout) (xs : List Line) where
   pub chain_plays : (s : Scene) (h : List Event) (u : Scene) → IsChain l xs s h u → Plays l xs s h u

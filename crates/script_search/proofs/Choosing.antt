@@ -102,39 +102,11 @@ module _ (l : Layout) where
 
 makes_one : (o : Operation) (x : Choice) → IsOneOf (choices o) x → MayMake o x
 makes_one (Signal c) x h = absurd h
-makes_one (Acquire m) x h = h
-makes_one (Release m) x h = h
-makes_one (Wait m c) x h = h
-makes_one (AlertWait m c) x h = h
-makes_one (Broadcast c) x h = h
-makes_one (P s) x h = h
-makes_one (V s) x h = h
-makes_one (Alert u) x h = h
-makes_one TestAlert x h = h
-makes_one (AlertP s) x h = h
-makes_one (Add m n) x h = h
-makes_one (Until m c n) x h = h
-makes_one (AlertUntil m c n) x h = h
-makes_one (Fork u) x h = h
-makes_one (Join u) x h = h
+makes_one _ x h = h
 
 pub one_made : (o : Operation) (x : Choice) → MayMake o x → ((c : CondId) → o ≡ Signal c → ⊥) → IsOneOf (choices o) x
 one_made (Signal c) x h not = absurd (not c refl)
-one_made (Acquire m) x h not = h
-one_made (Release m) x h not = h
-one_made (Wait m c) x h not = h
-one_made (AlertWait m c) x h not = h
-one_made (Broadcast c) x h not = h
-one_made (P s) x h not = h
-one_made (V s) x h not = h
-one_made (Alert u) x h not = h
-one_made TestAlert x h not = h
-one_made (AlertP s) x h not = h
-one_made (Add m n) x h not = h
-one_made (Until m c n) x h not = h
-one_made (AlertUntil m c n) x h not = h
-one_made (Fork u) x h not = h
-one_made (Join u) x h not = h
+one_made _ x h not = h
 
 -- in three places stand these choices and no others
 pub three_is : (cs : List Choice) (k : ℕ) (x : Choice) → slice_get (three cs) k ≡ Some (Some x) → IsOneOf cs x
@@ -170,21 +142,7 @@ is_three (a ∷ b ∷ c ∷ d ∷ rest) x few (inr (inr (inr h))) = absurd (omeg
 
 pub choices_few : (o : Operation) → length (choices o) ≤ 3
 choices_few (Acquire m) = omega arith
-choices_few (Release m) = omega arith
-choices_few (Wait m c) = omega arith
-choices_few (AlertWait m c) = omega arith
-choices_few (Signal c) = omega arith
-choices_few (Broadcast c) = omega arith
-choices_few (P s) = omega arith
-choices_few (V s) = omega arith
-choices_few (Alert u) = omega arith
-choices_few TestAlert = omega arith
-choices_few (AlertP s) = omega arith
-choices_few (Add m n) = omega arith
-choices_few (Until m c n) = omega arith
-choices_few (AlertUntil m c n) = omega arith
-choices_few (Fork u) = omega arith
-choices_few (Join u) = omega arith
+choices_few _ = omega arith
 
 gives_line : (v : Version) (x : Line) (rest : List Line) (c : Choice) → MayMake x.operation c → Gives v (x ∷ rest) c
 gives_line One x rest c h = h

@@ -32,8 +32,6 @@ pub outside_idle : (m : Moment) (i : ℕ) → i < length m.threads → (spec_of 
 outside_idle m i low idle c = member_now m i low nobody c ∙ idle_outside (get_or m.threads i nobody).place c (sym (pending_now m i low nobody) ∙ idle)
 
 elsewhere : (p : Place) (m : MutexId) (c : CondId) (k : ℕ) → (pending_of p ≡ Waiting m c) ⊎ (pending_of p ≡ AlertWaiting m c) → k ≢ c.0 → is_inside k p ≡ false
-elsewhere place.Unborn m c k h ne = refl
-elsewhere place.Running m c k h ne = refl
 elsewhere (place.Waiting m q inside) n c k h ne = elim h [
   | inl e ↦ let same : q ≡ c.0 = ap cond_of e in rw (ne_eqb k q (λ z. ne (z ∙ same))) refl
   | inr e ↦ absurd (cc)
@@ -52,7 +50,7 @@ elsewhere (place.AlertWaiting m q inside) n c k h ne = elim h [
     cond_of Nothing = 0
     cond_of (Waiting a b) = b.0
     cond_of (AlertWaiting a b) = b.0
-elsewhere place.Ended m c k h ne = refl
+elsewhere _ m c k h ne = refl
 
 -- one in a wait is in no other condition than that of the wait
 pub outside_others : (m : Moment) (i : ℕ) → i < length m.threads → (u : MutexId) (c : CondId) → ((spec_of m).pending i ≡ Waiting u c) ⊎ ((spec_of m).pending i ≡ AlertWaiting u c)
@@ -69,11 +67,9 @@ outside_all m i low u c waits out k = dite (ℕ_discrete k c.0)
     (λ ne. outside_others m i low u c waits k ne)
 
 unborn_idle : (p : Place) → life_of p ≡ Unborn → pending_of p ≡ Nothing
-unborn_idle place.Unborn e = refl
-unborn_idle place.Running e = refl
 unborn_idle (place.Waiting m q inside) e = absurd (cc)
 unborn_idle (place.AlertWaiting m q inside) e = absurd (cc)
-unborn_idle place.Ended e = refl
+unborn_idle _ e = refl
 
 pub idle_unborn : (m : Moment) (i : ℕ) → i < length m.threads → (spec_of m).life i ≡ Unborn → (spec_of m).pending i ≡ Nothing
 idle_unborn m i low unborn = pending_now m i low nobody ∙ unborn_idle (get_or m.threads i nobody).place (sym (life_now m i low nobody) ∙ unborn)
@@ -153,24 +149,15 @@ module _ (s : Spec) (t : ℕ) where
 -- the threads that a signal takes out
 inside-thin : (c : ℕ) (b : Bool) (k : ℕ) (p : Place) → is_inside k (thin_place c b p) ≡ cond (eqb k c) (cond b (is_inside c p) false) (is_inside k p)
 inside-thin c b k place.Unborn = grind (arith, nat_tests)
-inside-thin c b k place.Running = grind (arith, nat_tests)
-inside-thin c b k (place.Waiting m q inside) = grind (arith, nat_tests)
-inside-thin c b k (place.AlertWaiting m q inside) = grind (arith, nat_tests)
-inside-thin c b k place.Ended = grind (arith, nat_tests)
+inside-thin c b k _ = grind (arith, nat_tests)
 
 pending-thin : (c : ℕ) (b : Bool) (p : Place) → pending_of (thin_place c b p) ≡ pending_of p
 pending-thin c b place.Unborn = refl
-pending-thin c b place.Running = refl
-pending-thin c b (place.Waiting m q inside) = refl
-pending-thin c b (place.AlertWaiting m q inside) = refl
-pending-thin c b place.Ended = refl
+pending-thin c b _ = refl
 
 life-thin : (c : ℕ) (b : Bool) (p : Place) → life_of (thin_place c b p) ≡ life_of p
 life-thin c b place.Unborn = refl
-life-thin c b place.Running = refl
-life-thin c b (place.Waiting m q inside) = refl
-life-thin c b (place.AlertWaiting m q inside) = refl
-life-thin c b place.Ended = refl
+life-thin c b _ = refl
 
 low_or_high : (n m : ℕ) → (n < m) ⊎ (m ≤ n)
 low_or_high n m = grind arith

@@ -79,11 +79,9 @@ available-set m i v h = ap (λ f. record (spec_of m) { avail = f }) (shown_at-se
 
 -- a thread that has begun nothing is inside no condition, and one in a wait at most inside its own
 pub idle_outside : (p : Place) (c : ℕ) → pending_of p ≡ Nothing → is_inside c p ≡ false
-idle_outside place.Unborn c h = refl
-idle_outside place.Running c h = refl
 idle_outside (place.Waiting m k inside) c h = absurd (cc)
 idle_outside (place.AlertWaiting m k inside) c h = absurd (cc)
-idle_outside place.Ended c h = refl
+idle_outside _ c h = refl
 
 -- a test of a value that is equal to another
 pub iff_at : {A : Type 0} (b : Bool) (x y z : A) → x ≡ y → (IsTrue b ↔ (y ≡ z)) → IsTrue b ↔ (x ≡ z)

@@ -50,40 +50,17 @@ module _ (l : Layout) (h : Holding) (f : Forked) (t : ℕ) where
   AreIn o = AreOnes l (may_stand_first l.version h f t (word_of o)) (kinds_of (word_of o)) (numbers_of o)
 
   pub done : (o : Operation) → AreIn o → may_do l.version h f t o ≡ true
-  done (Acquire m) a = a.0.1
-  done (Release m) a = a.0.1
-  done (Wait m c) a = a.0.1
-  done (AlertWait m c) a = a.0.1
-  done (Signal c) a = a.0.1
-  done (Broadcast c) a = a.0.1
-  done (P s) a = a.0.1
-  done (V s) a = a.0.1
-  done (Alert u) a = a.0.1
   done TestAlert a = refl
-  done (AlertP s) a = a.0.1
-  done (Add m k) a = a.0.1
-  done (Until m c k) a = a.0.1
-  done (AlertUntil m c k) a = a.0.1
-  done (Fork u) a = a.0.1
-  done (Join u) a = a.0.1
+  done _ a = a.0.1
 
   do_first : (o : Operation) → IsNamed l o → may_do l.version h f t o ≡ true → AreIn o
-  do_first (Acquire m) n d = ((n.0, d), tt)
-  do_first (Release m) n d = ((n.0, d), tt)
   do_first (Wait m c) n d = ((n.0, d), ((n.1.0, refl), tt))
   do_first (AlertWait m c) n d = ((n.0, d), ((n.1.0, refl), tt))
-  do_first (Signal c) n d = ((n.0, d), tt)
-  do_first (Broadcast c) n d = ((n.0, d), tt)
-  do_first (P s) n d = ((n.0, d), tt)
-  do_first (V s) n d = ((n.0, d), tt)
-  do_first (Alert u) n d = ((n.0, d), tt)
   do_first TestAlert n d = tt
-  do_first (AlertP s) n d = ((n.0, d), tt)
   do_first (Add m k) n d = ((n.0, d), (n.1.0, tt))
   do_first (Until m c k) n d = ((n.0, d), ((n.1.0, refl), (n.1.1.0, tt)))
   do_first (AlertUntil m c k) n d = ((n.0, d), ((n.1.0, refl), (n.1.1.0, tt)))
-  do_first (Fork u) n d = ((n.0, d), tt)
-  do_first (Join u) n d = ((n.0, d), tt)
+  do_first _ n d = ((n.0, d), tt)
 
 not_false : (b : Bool) → not b ≡ true → b ≡ false
 not_false false e = refl

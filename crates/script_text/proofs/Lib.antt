@@ -9,6 +9,5 @@ pub mod LineCode
 pub mod Operands
 pub mod Parsed
 pub mod Readable
-pub mod ByLines
 pub mod Scripts
 pub mod Reading

@@ -5,7 +5,7 @@ use Rattle.std.specs.Prelude.{codes, decimal}
 use Rattle.exact_text.specs.Codes.{IsCode}
 use Rattle.exact_text.specs.Reading.{number_at, after_word}
 use Rattle.exact_text.proofs.Choices.{differ, differ-apart, all_differ, differs_from_all, both_true}
-use Rattle.exact_text.proofs.CodeLaws.{AreApart, ok_injective, as_code, lawful_code, nothing_code, only_code, same_code, then_code, word_code}
+use Rattle.exact_text.proofs.CodeLaws.{AreApart, read_same, as_code, lawful_code, nothing_code, only_code, same_code, then_code, word_code}
 use Rattle.exact_text.proofs.Numbers.{number_code}
 use Rattle.larch_actions.specs.declared.event.Layout.{Layout}
 use Rattle.larch_actions.specs.declared.event.Version.{Version}
@@ -46,10 +46,7 @@ this_code may stop i =
 
 -- the number before a stop is determined
 stopped_same : (stop n m : ℕ) (a b : List ℕ) → stop < 48 → n < 2 ^ 64 → m < 2 ^ 64 → stopped stop n ++ a ≡ stopped stop m ++ b → n ≡ m
-stopped_same stop n m a b low fn fm e =
-    let code = number_code 0 (2 ^ 64) stop (omega arith) (omega arith) (omega arith) low in
-    let k : Ok (n, a) ≡ Ok (m, b) = sym (code.again n a (omega arith, fn)) ∙ ap (number_at 0 (2 ^ 64) stop) e ∙ code.again m b (omega arith, fm) in
-    ap (λ p. p.0) (ok_injective k)
+stopped_same stop n m a b low fn fm e = (read_same (number_code 0 (2 ^ 64) stop (omega arith) (omega arith) (omega arith) low) n m a b (omega arith, fn) (omega arith, fm) e).0
 
 -- a number below the bound that may stand there
 abbrev IsSome : (ℕ → Bool) → ℕ → ℕ → Type 0

@@ -18,8 +18,7 @@ prefix_flat Count = tt
 
 prefix_short : (k : Operand) → length (prefix_text k) ≤ 1
 prefix_short (Name k) = omega arith
-prefix_short Amount = omega arith
-prefix_short Count = omega arith
+prefix_short _ = omega arith
 
 -- of three numbers at most two are taken
 pub take_two : (ks : List Operand) (a b e : ℕ) → length ks ≤ 2 → take (length ks) (a ∷ b ∷ e ∷ []) ≡ take (length ks) (a ∷ b ∷ [])

@@ -24,59 +24,17 @@ fit w f short few = record { flat = flat_from (word_text w) f; short = short; fe
 
 pub fits : (w : Word) → IsFit w
 fits word.Acquire = fit word.Acquire refl (omega arith) (omega arith)
-fits word.Release = fit word.Release refl (omega arith) (omega arith)
-fits word.Wait = fit word.Wait refl (omega arith) (omega arith)
-fits word.AlertWait = fit word.AlertWait refl (omega arith) (omega arith)
-fits word.Signal = fit word.Signal refl (omega arith) (omega arith)
-fits word.Broadcast = fit word.Broadcast refl (omega arith) (omega arith)
-fits word.P = fit word.P refl (omega arith) (omega arith)
-fits word.V = fit word.V refl (omega arith) (omega arith)
-fits word.Alert = fit word.Alert refl (omega arith) (omega arith)
-fits word.TestAlert = fit word.TestAlert refl (omega arith) (omega arith)
-fits word.AlertP = fit word.AlertP refl (omega arith) (omega arith)
-fits word.Add = fit word.Add refl (omega arith) (omega arith)
-fits word.Until = fit word.Until refl (omega arith) (omega arith)
-fits word.AlertUntil = fit word.AlertUntil refl (omega arith) (omega arith)
-fits word.Fork = fit word.Fork refl (omega arith) (omega arith)
-fits word.Join = fit word.Join refl (omega arith) (omega arith)
+fits a = fit a refl (omega arith) (omega arith)
 
 -- an operation is made of its word and its numbers
 pub built : (o : Operation) → o ≡ made (word_of o) (numbers_of o)
 built (Acquire m) = refl
-built (Release m) = refl
-built (Wait m c) = refl
-built (AlertWait m c) = refl
-built (Signal c) = refl
-built (Broadcast c) = refl
-built (P s) = refl
-built (V s) = refl
-built (Alert u) = refl
-built TestAlert = refl
-built (AlertP s) = refl
-built (Add m n) = refl
-built (Until m c n) = refl
-built (AlertUntil m c n) = refl
-built (Fork u) = refl
-built (Join u) = refl
+built _ = refl
 
 -- the operation that is made of a word has this word, and the numbers that stand after it
 pub made_word : (w : Word) (ns : List ℕ) → word_of (made w ns) ≡ w
 made_word word.Acquire ns = refl
-made_word word.Release ns = refl
-made_word word.Wait ns = refl
-made_word word.AlertWait ns = refl
-made_word word.Signal ns = refl
-made_word word.Broadcast ns = refl
-made_word word.P ns = refl
-made_word word.V ns = refl
-made_word word.Alert ns = refl
-made_word word.TestAlert ns = refl
-made_word word.AlertP ns = refl
-made_word word.Add ns = refl
-made_word word.Until ns = refl
-made_word word.AlertUntil ns = refl
-made_word word.Fork ns = refl
-made_word word.Join ns = refl
+made_word _ ns = refl
 
 no_numbers : (ns : List ℕ) → length ns ≡ 0 → [] ≡ ns
 no_numbers [] e = refl
@@ -101,22 +59,13 @@ three_numbers (a ∷ b ∷ []) e = absurd (omega arith)
 three_numbers (a ∷ b ∷ c ∷ d ∷ ns) e = absurd (omega arith)
 
 pub made_numbers : (w : Word) (ns : List ℕ) → length ns ≡ length (kinds_of w) → numbers_of (made w ns) ≡ ns
-made_numbers word.Acquire ns e = one_number ns e
-made_numbers word.Release ns e = one_number ns e
 made_numbers word.Wait ns e = two_numbers ns e
 made_numbers word.AlertWait ns e = two_numbers ns e
-made_numbers word.Signal ns e = one_number ns e
-made_numbers word.Broadcast ns e = one_number ns e
-made_numbers word.P ns e = one_number ns e
-made_numbers word.V ns e = one_number ns e
-made_numbers word.Alert ns e = one_number ns e
 made_numbers word.TestAlert ns e = no_numbers ns e
-made_numbers word.AlertP ns e = one_number ns e
 made_numbers word.Add ns e = two_numbers ns e
 made_numbers word.Until ns e = three_numbers ns e
 made_numbers word.AlertUntil ns e = three_numbers ns e
-made_numbers word.Fork ns e = one_number ns e
-made_numbers word.Join ns e = one_number ns e
+made_numbers _ ns e = one_number ns e
 
 -- where a word stands among all
 abbrev pub place_of : Word → ℕ
@@ -142,21 +91,7 @@ IsThere w = (get_or words (place_of w) word.Acquire ≡ w) × (place_of w < leng
 
 pub is_there : (w : Word) → IsThere w
 is_there word.Acquire = (refl, omega arith)
-is_there word.Release = (refl, omega arith)
-is_there word.Wait = (refl, omega arith)
-is_there word.AlertWait = (refl, omega arith)
-is_there word.Signal = (refl, omega arith)
-is_there word.Broadcast = (refl, omega arith)
-is_there word.P = (refl, omega arith)
-is_there word.V = (refl, omega arith)
-is_there word.Alert = (refl, omega arith)
-is_there word.TestAlert = (refl, omega arith)
-is_there word.AlertP = (refl, omega arith)
-is_there word.Add = (refl, omega arith)
-is_there word.Until = (refl, omega arith)
-is_there word.AlertUntil = (refl, omega arith)
-is_there word.Fork = (refl, omega arith)
-is_there word.Join = (refl, omega arith)
+is_there _ = (refl, omega arith)
 
 -- the mutex that is used is within the layout
 pub named_use : (l : Layout) (o : Operation) → IsNamed l o → UseWithin l (use_of o)
@@ -164,53 +99,22 @@ named_use l (Acquire m) n = n.0
 named_use l (Release m) n = n.0
 named_use l (Wait m c) n = n.0
 named_use l (AlertWait m c) n = n.0
-named_use l (Signal c) n = tt
-named_use l (Broadcast c) n = tt
-named_use l (P s) n = tt
-named_use l (V s) n = tt
-named_use l (Alert u) n = tt
-named_use l TestAlert n = tt
-named_use l (AlertP s) n = tt
 named_use l (Add m k) n = n.0
 named_use l (Until m c k) n = n.0
 named_use l (AlertUntil m c k) n = n.0
-named_use l (Fork u) n = tt
-named_use l (Join u) n = tt
+named_use l _ n = tt
 
 -- a first number of 32 bits is small enough after any word
 pub first_small : (w : Word) (n : ℕ) → n < 2 ^ 32 → AreSmall (kinds_of w) (n ∷ 0 ∷ 0 ∷ [])
-first_small word.Acquire n h = (h, tt)
-first_small word.Release n h = (h, tt)
 first_small word.Wait n h = (h, (omega arith, tt))
 first_small word.AlertWait n h = (h, (omega arith, tt))
-first_small word.Signal n h = (h, tt)
-first_small word.Broadcast n h = (h, tt)
-first_small word.P n h = (h, tt)
-first_small word.V n h = (h, tt)
-first_small word.Alert n h = (h, tt)
 first_small word.TestAlert n h = tt
-first_small word.AlertP n h = (h, tt)
 first_small word.Add n h = (h, (omega arith, tt))
 first_small word.Until n h = (h, (omega arith, (omega arith, tt)))
 first_small word.AlertUntil n h = (h, (omega arith, (omega arith, tt)))
-first_small word.Fork n h = (h, tt)
-first_small word.Join n h = (h, tt)
+first_small _ n h = (h, tt)
 
 -- an operation is made of the numbers that stand after its word alone
 pub made_first : (w : Word) (x : Numbers) → made w (first_of (kinds_of w) x) ≡ made w (listed x)
 made_first word.Acquire x = refl
-made_first word.Release x = refl
-made_first word.Wait x = refl
-made_first word.AlertWait x = refl
-made_first word.Signal x = refl
-made_first word.Broadcast x = refl
-made_first word.P x = refl
-made_first word.V x = refl
-made_first word.Alert x = refl
-made_first word.TestAlert x = refl
-made_first word.AlertP x = refl
-made_first word.Add x = refl
-made_first word.Until x = refl
-made_first word.AlertUntil x = refl
-made_first word.Fork x = refl
-made_first word.Join x = refl
+made_first _ x = refl

@@ -71,10 +71,8 @@ signal_acts s u t c x y same (may, is) = (
 )
 
 signal_fails : (s : Spec) (t : ThreadId) (c : CondId) (x y : ThreadSet) (why : Broken) → in_set x ≡ in_set y → Fails s (signal t c x) why → Fails s (signal t c y) why
-signal_fails s t c x y broken.Order same f = f
-signal_fails s t c x y broken.Requires same f = f
-signal_fails s t c x y broken.When same f = f
 signal_fails s t c x y broken.Ensures same f = (f.0, f.1, f.2, λ m. f.3 (subst (MayLeave (s.members c.0)) (sym same) m))
+signal_fails s t c x y _ same f = f
 
 module _ (l : Layout) (ok : IsLawful l) where
   acts_plain : (s u : Spec) (t : ThreadId) (a : Action) → IsNamed l a → Acts s (record { thread = t; action = a }) u → Acts s (record { thread = t; action = plain a }) u

@@ -22,11 +22,9 @@ use Rattle.trace_core.specs.Made.{IsMade}
 use Rattle.trace_core.specs.ReaderState.{ReaderState}
 use Rattle.trace_core.specs.Steps.{TakesHead, TakesEvent, TakesEnd, Breaks}
 use Rattle.trace_core.specs.Text.{first_line, layout_line, head_text, event_line, end_line, values_text, rest_text, trace_text, IsTrace, IsRest}
-use Rattle.exact_text.proofs.Texts.{reason_after}
-use Rattle.trace_core.proofs.LineLaws.{line_code}
-use Rattle.trace_core.proofs.Texts.{line_grammar}
+use Rattle.trace_core.proofs.Outcomes.{after_line}
 use Rattle.std.proofs.KnownBytes.{Consumes-trans}
-use Rattle.exact_text.proofs.Stuck.{take_after}
+use Rattle.exact_text.proofs.Stuck.{take_after, Consumes-split}
 use Rattle.trace_core.specs.Whole.{event_lines}
 use Rattle.trace_check.specs.Verdicts.{prefix_text, NoFault, IsCutOff, refusal, IsJust, IsPrefixText, IsLegalText, IsIllegalText}
 use Rattle.trace_check.specs.declared.checker.Summary.{Summary}
@@ -93,8 +91,7 @@ step_on budget left₀ before now now' p p' m m' count e fits u t a same le =
       room = rw t.layout r.1;
       reasons = λ left'' after f h.
           u.reasons left'' after f
-          (reason_after (line_grammar (expect.Events p.layout p.place) (possible budget left₀ before p now m count fits u)) (line_code (expect.Events p.layout p.place) (possible budget left₀ before p now m count fits u)) (line.Event e) (t.names, t.made) p.rest p'.rest left'' p.lines p.room p'.room now now' after f t.passes.bytes t.passes.room le
-          (rw (t.layout, t.place, t.passes.lines) at h));
+          (after_line (expect.Events p.layout p.place) (possible budget left₀ before p now m count fits u) (line.Event e) (t.names, t.made) p.rest p'.rest left'' p.lines p'.lines p.room p'.room now now' after f t.passes.bytes t.passes.room t.passes.lines le (rw (t.layout, t.place) at h));
     }
 
 pub consumes_some : (bytes : List ℕ) (r : Option (List ℕ)) (text : List ℕ) → Consumes (Some bytes) r text → (ys : List ℕ) × (bytes ≡ text ++ ys) × (r ≡ Some ys)
@@ -117,11 +114,6 @@ prefix_read budget left₀ before now p m count u bytes reported_is =
       within = omega (arith, u.room);
       run = u.run;
     }
-
-pub Consumes-split : (a c : Option (List ℕ)) (xs ys : List ℕ) → Consumes a c (xs ++ ys) → (b : Option (List ℕ)) × Consumes a b xs × Consumes b c ys
-Consumes-split None c xs ys h = (None, tt, tt)
-Consumes-split (Some x) None xs ys h = absurd h
-Consumes-split (Some x) (Some z) xs ys h = (Some (ys ++ z), h ∙ append_assoc xs ys z, refl)
 
 no_more : (l' l : Layout) (place : ℕ) (es tail : List Event) (seen more : List ℕ) → length es ≡ place → l' ≡ l → AreReadable l tail → 0 < length tail → seen ≡ event_lines (length es) tail ++ more
     → Misses (HasNames l') (event_line place) seen → ⊥
@@ -287,8 +279,7 @@ starts_on budget left₀ before now p p' l m rest room lines t le laid first =
       read = rw t.layout (subst (Consumes left₀ p'.rest) (sym whole) bytes);
       room = rw t.layout (subst (λ x. p'.room + length x ≡ budget) (sym whole) size);
       reasons = λ left'' after f h.
-          let k = rw (t.layout, t.place, t.passes.lines ∙ ap (λ n. n + 2) lines) at h in
           let room₁ = p'.room + length (layout_line l) in
-          let laid = reason_after (line_grammar (expect.Counts l.version) tt) (line_code (expect.Counts l.version) tt) (line.Counts l) (t.lawful, refl) split.0 p'.rest left'' 1 room₁ p'.room now now after f split.2 refl (omega arith) k in
-          reason_after (line_grammar expect.Head tt) (line_code expect.Head tt) (line.Head l.version) tt left₀ split.0 left'' 0 budget room₁ before now after f split.1 (omega (arith, size, sum)) le laid;
+          let laid = after_line (expect.Counts l.version) tt (line.Counts l) (t.lawful, refl) split.0 p'.rest left'' 1 p'.lines room₁ p'.room now now after f split.2 refl (omega (arith, t.passes.lines, lines)) (omega arith) (rw (t.layout, t.place) at h) in
+          after_line expect.Head tt (line.Head l.version) tt left₀ split.0 left'' 0 1 budget room₁ before now after f split.1 (omega (arith, size, sum)) (omega arith) le laid;
     }

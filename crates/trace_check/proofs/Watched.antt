@@ -131,6 +131,4 @@ module _ {W : Type 0} (keeps : W → Layout → List Event → W → Type 0) (bu
 
     pub seen_cut : (f : TextFault) → HasSeen keeps budget left₀ w l None (refusal f) w'
     seen_cut (fault.BadLine k) = seen_by None (refusal (fault.BadLine k)) tt refl (nothing left₀)
-    seen_cut fault.TooLong = seen_by None (refusal fault.TooLong) tt refl (nothing left₀)
-    seen_cut fault.Read = seen_by None (refusal fault.Read) tt refl (nothing left₀)
-    seen_cut fault.Memory = seen_by None (refusal fault.Memory) tt refl (nothing left₀)
+    seen_cut a = seen_by None (refusal a) tt refl (nothing left₀)

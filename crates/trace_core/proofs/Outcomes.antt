@@ -1,5 +1,5 @@
 -- What each way out of reading a line means for the bytes that weren't read before.
-use Rattle.std.proofs.Common.{◌≡◌, ℕ, ◌+◌, ◌≤◌, ◌⊎◌, inl, inr, List, [], ◌++◌, length, take, ap, sym, subst, ◌∙◌, append_assoc, Ok, Err, Some, None, IfSome}
+use Rattle.std.proofs.Common.{◌≡◌, ℕ, ◌+◌, ◌≤◌, ◌⊎◌, inl, inr, List, [], ◌++◌, length, take, ap, sym, subst, ◌∙◌, append_assoc, Err, Some, None, IfSome}
 use Rattle.std.proofs.lemmas.List.{take_all}
 use Rattle.std.specs.Io.KnownBytes.{Consumes}
 use Rattle.std.specs.declared.option.Option.{Option}
@@ -17,12 +17,20 @@ use Rattle.larch_actions.specs.Layout.{IsLawful, HasNames}
 use Rattle.trace_core.specs.declared.line.Line.TheVariants as line
 use Rattle.trace_core.specs.declared.line.Expect.TheVariants as expect
 use Rattle.trace_core.specs.Text.{first_line, layout_line, head_text, event_line, end_line}
-use Rattle.exact_text.proofs.CodeLaws.{ok_injective}
-use Rattle.trace_core.specs.Lines.{line_at, line_text, IsPossible, IsAllowed}
+use Rattle.exact_text.proofs.CodeLaws.{read_same}
+use Rattle.trace_core.specs.Lines.{line_at, line_text, IsPossible, IsAllowed, IsTextFrom, IsTextAfter}
 use Rattle.trace_core.proofs.LineLaws.{line_code}
+use Rattle.trace_core.proofs.Texts.{line_grammar}
 use Rattle.trace_core.proofs.Plain.{plain_event, plain_is_read, plain_line}
 use Rattle.exact_text.proofs.Stuck.{for_some, take_after}
+use Rattle.exact_text.proofs.Texts.{bytes_before, reason_line}
 use Rattle.std.proofs.KnownBytes.{Consumes-trans}
+
+-- why the rest wasn't read after a line is why the text wasn't
+pub after_line : (x : Expect) (ok : IsPossible x) (y : Line) → IsAllowed x y → (r r' left' : Option (List ℕ)) (lines lines' room room' first before now : ℕ) (fault : TextFault) → Consumes r r' (line_text x y) → room' + length (line_text x y) ≡ room
+    → lines' ≡ lines + 1 → first ≤ before → HasReason (IsTextAfter x y) (bytes_room room') lines' r' left' before now fault → HasReason (IsTextFrom x) (bytes_room room) lines r left' first now fault
+after_line x ok y a r r' left' lines lines' room room' first before now fault c size count le h =
+    reason_line (λ _ t. inr t) (λ _ t. t) (line_grammar x ok) (line_code x ok) y a (bytes_room room) (bytes_room room') (bytes_before (line_text x y) room room' size) r r' left' lines lines' first before now fault c count le h
 
 misses : (x : Expect) → IsPossible x → (w : List ℕ) (s : Stop) → line_at x w ≡ Err s → Misses (IsAllowed x) (line_text x) w
 misses x ok w s e = λ y a h eq. let o = ap (line_at x) eq ∙ (line_code x ok).again y a h in absurd (cc)
@@ -43,11 +51,7 @@ stuck_lacks x ok r left' lines room before now Read h = (h.1.0, h.1.1, misses x 
 
 -- two lines at the front of the same bytes are one
 pub same_line : (x : Expect) → IsPossible x → (y z : Line) (a b : List ℕ) → IsAllowed x y → IsAllowed x z → line_text x y ++ a ≡ line_text x z ++ b → (y ≡ z) × (a ≡ b)
-same_line x ok y z a b p q e =
-    let code = line_code x ok in
-    let k : Ok (y, a) ≡ Ok (z, b) = sym (code.again y a p) ∙ ap (line_at x) e ∙ code.again z b q in
-    let i : (y, a) ≡ (z, b) = ok_injective k in
-    (ap (λ p. p.0) i, ap (λ p. p.1) i)
+same_line x ok y z a b p q e = read_same (line_code x ok) y z a b p q e
 
 -- bytes that miss the one miss the other
 lacks_also : {X Y : Type 0} (lawful : X → Type 0) (text : X → List ℕ) (lawful' : Y → Type 0) (text' : Y → List ℕ) (room : ℕ) (r left' : Option (List ℕ)) (fault : TextFault)

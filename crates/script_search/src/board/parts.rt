@@ -159,7 +159,8 @@ impl Board {
         self.threads[t as usize].alerted
     }
 
-    pub(crate) fn is_inside(&self, cond: u32, t: u32) -> bool
+    /// Whether the thread is in the condition.
+    pub fn is_inside(&self, cond: u32, t: u32) -> bool
         requires { t < vec_len self.now.threads }
         ensures { result ≡ (spec_of (moment_of self.now)).members cond t }
     {

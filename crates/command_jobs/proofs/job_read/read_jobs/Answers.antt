@@ -6,10 +6,12 @@ use Rattle.std.proofs.KnownBytes.{Consumes-trans}
 use Rattle.std.proofs.lemmas.List.Concat.{flat_map-append}
 use Rattle.exact_text.specs.Exact.{HasReason, lines_room}
 use Rattle.exact_text.specs.Intake.{rest_of}
-use Rattle.exact_text.proofs.LinesOf.{lines_reason, lines_whole, all_append}
+use Rattle.exact_text.proofs.LinesOf.{reach_lines, lines_before, all_append}
+use Rattle.exact_text.proofs.Stuck.{all_read}
+use Rattle.exact_text.proofs.Texts.{or_memory, reason_after}
 use Rattle.command_jobs.specs.JobLines.{IsJobs, IsLawful, line_text, most_lines}
-use Rattle.command_jobs.specs.JobReading.{job_code, job_is_line, some_job}
-use Rattle.command_jobs.proofs.JobTexts.{read_as, or_memory}
+use Rattle.command_jobs.specs.JobReading.{job_code, job_is_line}
+use Rattle.command_jobs.proofs.JobTexts.{read_as}
 use Rattle.command_jobs.proofs.job_read.read_jobs.Goals as goal
 
 pub loop-line-preserved : goal.loop-line-preserved
@@ -40,12 +42,12 @@ returns-in-Err-clause-fault g c =
     let was = c.loop-line.invariant in
     let xs = c.loop-line.lines.items in
     or_memory (HasReason IsJobs (lines_room most_lines) 0 (g.I.Source.left c.args.input.now) (g.I.Source.left c.another_line.new.input) (g.I.Source.faults c.args.input.now) (g.I.Source.faults c.another_line.new.input)) c.in-Err.fault
-    (lines_reason job_code (λ x h. (job_is_line x h).0) some_job (g.I.Source.left c.args.input.now) (rest_of c.loop-line.intake (g.I.Source.left c.loop-line.input)) (g.I.Source.left c.another_line.new.input) xs 100000 (100000 - c.loop-line.intake.lines) c.loop-line.intake.lines
-    _ _ _ c.in-Err.fault was.lawful was.consumed was.counted (omega (arith, was.few, was.counted)) was.unfailed c.in-Err.ensures.fault)
+    (reason_after (flat_map line_text xs) (lines_before job_code (λ x h. (job_is_line x h).0) xs was.lawful 100000 (100000 - c.loop-line.intake.lines) (omega (arith, was.few, was.counted))) (reach_lines job_code (λ x h. (job_is_line x h).0) xs was.lawful) (g.I.Source.left c.args.input.now)
+    (rest_of c.loop-line.intake (g.I.Source.left c.loop-line.input)) (g.I.Source.left c.another_line.new.input) 0 c.loop-line.intake.lines _ _ _ c.in-Err.fault was.consumed (omega (arith, was.counted)) (omega (arith, was.unfailed)) c.in-Err.ensures.fault)
 
 pub returns-in-Ok-None-clause-lines : goal.returns-in-Ok-None-clause-lines
 returns-in-Ok-None-clause-lines g c =
     let was = c.loop-line.invariant in
     let end = rw c.in-Ok-None.field-0-is at c.in-Ok-None.ensures.end in
     read_as (g.I.Source.left c.args.input.now) c.loop-line.lines.items was.lawful
-    (lines_whole job_code (λ x h. (job_is_line x h).0) some_job (g.I.Source.left c.args.input.now) (rest_of c.loop-line.intake (g.I.Source.left c.loop-line.input)) c.loop-line.lines.items was.consumed end.0)
+    (all_read (g.I.Source.left c.args.input.now) (rest_of c.loop-line.intake (g.I.Source.left c.loop-line.input)) (flat_map line_text c.loop-line.lines.items) [] (flat_map line_text c.loop-line.lines.items) was.consumed end.0 (append-nil (flat_map line_text c.loop-line.lines.items)))

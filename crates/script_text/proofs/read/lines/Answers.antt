@@ -1,7 +1,9 @@
-use Rattle.std.proofs.Common.{◌-◌, ◌∷◌, [], length, length-append, refl, ap, sym, subst, ◌∙◌, arith}
+use Rattle.std.proofs.Common.{◌-◌, ◌∷◌, [], length, length-append, append-nil, refl, ap, sym, subst, ◌∙◌, arith}
 use Rattle.exact_text.specs.Exact.{HasReason, lines_room}
 use Rattle.exact_text.specs.Intake.{rest_of}
 use Rattle.exact_text.proofs.Reported.{same_reported, fault_reported}
+use Rattle.exact_text.proofs.Stuck.{consumes_none, all_read}
+use Rattle.exact_text.proofs.Texts.{or_map}
 use Rattle.script_text.specs.declared.draft.Draft.{Draft}
 use Rattle.script_text.specs.Drafts.{held_in, forked_in}
 use Rattle.script_text.specs.Finished.{IsFinished}
@@ -10,7 +12,7 @@ use Rattle.script_text.specs.Operations.{none_held, none_forked}
 use Rattle.script_text.specs.Text.{lines_text}
 use Rattle.script_text.specs.Texts.{IsRest}
 use Rattle.script_text.proofs.Layouts.{few_head}
-use Rattle.script_text.proofs.Reading.{line_step, none_step, or_map, consumed_more, consumes_none, all_read}
+use Rattle.script_text.proofs.Reading.{line_step, none_step, consumed_more}
 use Rattle.script_text.proofs.read.lines.Goals as goal
 
 pub loop-fault-init : goal.loop-fault-init
@@ -63,7 +65,7 @@ returns-in-Ok-false-clause-done g c =
       free = e.free;
       few = omega (arith, was.counted, was.few);
       at_end = e.at_end;
-      text = all_read r here (lines_text d.lines.items) was.consumed e.nothing;
+      text = all_read r here (lines_text d.lines.items) [] (lines_text d.lines.items) was.consumed e.nothing (append-nil (lines_text d.lines.items));
     })
 
 pub returns-in-Err-clause-fault : goal.returns-in-Err-clause-fault

@@ -1,7 +1,8 @@
-use Rattle.std.proofs.Common.{◌+◌, ◌-◌, sym, ◌∙◌, arith}
+use Rattle.std.proofs.Common.{[], ◌+◌, ◌-◌, sym, ◌∙◌, arith}
 use Rattle.std.proofs.lemmas.Bool.{false≢true}
 use Rattle.exact_text.specs.Intake.{rest_of}
-use Rattle.exact_text.proofs.LinesOf.{keeps_then}
+use Rattle.std.proofs.KnownBytes.{Consumes-trans}
+use Rattle.exact_text.proofs.Stuck.{kept_none}
 use Rattle.script_text.specs.NextLine.{whole_line}
 use Rattle.script_text.proofs.Reading.{readable, asked_why, stuck_why, full_why, held_why}
 use Rattle.script_text.proofs.read.one.Goals as goal
@@ -56,7 +57,7 @@ returns-in-Ok-take-clause-read g c =
       line = x;
       may = h.line.0;
       takes = c.in-Ok-take.ensures.taken;
-      bytes = keeps_then r here then (whole_line x) a.2 h.line.1;
+      bytes = Consumes-trans r here then [] (whole_line x) (kept_none r here a.2) h.line.1;
       few = omega (arith, c.if-intake-ge-MOST_LINES.false, a.0.1);
       counted = omega (arith, h.lines, a.0.1);
       room = omega (arith, h.room, a.1, ((readable c.args.draft.now c.requires.draft).lines x h.line.0).1);

@@ -9,7 +9,9 @@ use Rattle.script_text.specs.declared.line.Line.{Line}
 use Rattle.script_text.specs.Operations.{MayFollow, AllFree, none_held, none_forked, held_after}
 use Rattle.script_text.specs.Text.{lines_text, IsScriptText}
 use Rattle.script_text.specs.Texts.{head_text, IsRest}
-use Rattle.script_text.proofs.Reading.{or_memory, or_map, nothing_held, script_read}
+use Rattle.exact_text.proofs.Stuck.{nothing_held}
+use Rattle.exact_text.proofs.Texts.{or_memory, or_map}
+use Rattle.script_text.proofs.Reading.{script_read}
 use Rattle.script_text.proofs.Scripts.{head_reason}
 use Rattle.script_text.proofs.read.read_script.Goals as goal
 

@@ -2,9 +2,7 @@ use Rattle.std.proofs.Common.{◌≡◌, ◌+◌, ◌-◌, ◌∙◌, refl, arit
 use Rattle.trace_core.specs.declared.line.Line.TheVariants as line
 use Rattle.trace_core.specs.declared.line.Expect.TheVariants as expect
 use Rattle.exact_text.specs.Intake.{rest_of, room_of}
-use Rattle.exact_text.proofs.Texts.{reason_after}
-use Rattle.trace_core.proofs.LineLaws.{line_code}
-use Rattle.trace_core.proofs.Texts.{line_grammar}
+use Rattle.trace_core.proofs.Outcomes.{after_line}
 use Rattle.trace_core.proofs.Ends.{past_values, asked_reason, one_more_value, on_ok, if_err}
 use Rattle.trace_core.proofs.Asking.{value_asks, values_asks}
 use Rattle.exact_text.proofs.Reported.{same_reported, then_reported, fault_reported}
@@ -37,9 +35,9 @@ returns-in-Ok-Value-clause-fault g t c =
     let l = c.args.layout.now in
     if_err c.take_values.result
     (λ fault r. asked_reason l c.args.least (c.requires, c.if-least-layout.false) c.args.intake.now c.goes_on.new.self (g.I.Source.left c.args.input.now) (g.I.Source.left c.goes_on.new.input) (g.I.Source.left c.take_values.new.input) (g.I.Source.faults c.args.input.now) (g.I.Source.faults c.goes_on.new.input) (g.I.Source.faults c.take_values.new.input) fault a c.goes_on.ensures.reported.later
-    (reason_after (line_grammar (expect.Values l c.args.least) (c.requires, c.if-least-layout.false)) (line_code (expect.Values l c.args.least) (c.requires, c.if-least-layout.false)) (line.Value c.in-Ok-Value.mutex c.in-Ok-Value.field-0-1) taken.0
-    _ (rest_of c.take_line.new.intake (g.I.Source.left c.take_line.new.input)) _ _ _ (room_of c.take_line.new.intake) _ (g.I.Source.faults c.take_line.new.input) _
-    fault taken.1 room h.reported.later (rw h.lines at r)))
+    (after_line (expect.Values l c.args.least) (c.requires, c.if-least-layout.false) (line.Value c.in-Ok-Value.mutex c.in-Ok-Value.field-0-1) taken.0
+    _ (rest_of c.take_line.new.intake (g.I.Source.left c.take_line.new.input)) _ _ _ _ (room_of c.take_line.new.intake) _ (g.I.Source.faults c.take_line.new.input) _
+    fault taken.1 room h.lines h.reported.later r))
     c.take_values.ensures.fault
 
 pub returns-in-Err-take_line-clause-fault : goal.returns-in-Err-take_line-clause-fault

@@ -3,10 +3,7 @@ use Rattle.trace_core.specs.declared.line.Line.TheVariants as line
 use Rattle.trace_core.specs.declared.line.Expect.TheVariants as expect
 use Rattle.exact_text.specs.Intake.{rest_of, room_of}
 use Rattle.trace_core.specs.Text.{IsValues}
-use Rattle.exact_text.proofs.Texts.{reason_after}
-use Rattle.trace_core.proofs.LineLaws.{line_code}
-use Rattle.trace_core.proofs.Texts.{line_grammar}
-use Rattle.trace_core.proofs.Outcomes.{event_lacks, end_lacks}
+use Rattle.trace_core.proofs.Outcomes.{after_line, event_lacks, end_lacks}
 use Rattle.trace_core.proofs.Asking.{asked_or_not, event_asks, end_asks}
 use Rattle.exact_text.proofs.Reported.{same_reported, fault_reported}
 use Rattle.trace_core.proofs.sections.take_event.Goals as goal
@@ -16,9 +13,9 @@ returns-in-Err-take_values-clause-fault g c =
     let h = c.in-Ok-End.ensures in
     let taken = rw c.in-Ok-End.field-0-is at h.line in
     let room = rw c.in-Ok-End.field-0-is at h.room in
-    reason_after (line_grammar (expect.Events c.args.layout.now c.args.place) (c.requires.lawful, omega (arith, c.requires.placed))) (line_code (expect.Events c.args.layout.now c.args.place) (c.requires.lawful, omega (arith, c.requires.placed))) line.End tt
-    _ (rest_of c.take_line.new.intake (g.I.Source.left c.take_line.new.input)) _ _ _ (room_of c.take_line.new.intake) _ (g.I.Source.faults c.take_line.new.input) _
-    c.in-Err-take_values.fault taken.1 room h.reported.later (rw h.lines at c.in-Err-take_values.ensures.fault)
+    after_line (expect.Events c.args.layout.now c.args.place) (c.requires.lawful, omega (arith, c.requires.placed)) line.End tt
+    _ (rest_of c.take_line.new.intake (g.I.Source.left c.take_line.new.input)) _ _ _ _ (room_of c.take_line.new.intake) _ (g.I.Source.faults c.take_line.new.input) _
+    c.in-Err-take_values.fault taken.1 room h.lines h.reported.later c.in-Err-take_values.ensures.fault
 
 pub returns-in-Err-take_values-clause-lacks : goal.returns-in-Err-take_values-clause-lacks
 returns-in-Err-take_values-clause-lacks g c =

@@ -6,10 +6,7 @@ use Rattle.trace_core.specs.declared.line.Line.TheVariants as line
 use Rattle.trace_core.specs.declared.line.Expect.TheVariants as expect
 use Rattle.exact_text.specs.Intake.{rest_of, room_of}
 use Rattle.trace_core.specs.Text.{first_line, layout_line}
-use Rattle.exact_text.proofs.Texts.{reason_after}
-use Rattle.trace_core.proofs.LineLaws.{line_code}
-use Rattle.trace_core.proofs.Texts.{line_grammar}
-use Rattle.trace_core.proofs.Outcomes.{first_lacks, counts_lacks}
+use Rattle.trace_core.proofs.Outcomes.{after_line, first_lacks, counts_lacks}
 use Rattle.trace_core.proofs.Asking.{asked_or_not, first_asks, head_asks}
 use Rattle.exact_text.proofs.Reported.{same_reported, fault_reported}
 use Rattle.trace_core.proofs.sections.take_head.Goals as goal
@@ -19,9 +16,9 @@ returns-in-Err-take_line-clause-fault g c =
     let h = c.in-Ok-Head.ensures in
     let taken = rw c.in-Ok-Head.field-0-is at h.line in
     let room = rw c.in-Ok-Head.field-0-is at h.room in
-    reason_after (line_grammar expect.Head tt) (line_code expect.Head tt) (line.Head c.in-Ok-Head.version) tt
-    _ (rest_of c.take_line.new.intake (g.I.Source.left c.take_line.new.input)) _ _ _ (room_of c.take_line.new.intake) _ (g.I.Source.faults c.take_line.new.input) _
-    c.in-Err-take_line.fault taken.1 room h.reported.later (rw h.lines at c.in-Err-take_line.ensures.fault)
+    after_line expect.Head tt (line.Head c.in-Ok-Head.version) tt
+    _ (rest_of c.take_line.new.intake (g.I.Source.left c.take_line.new.input)) _ _ _ _ (room_of c.take_line.new.intake) _ (g.I.Source.faults c.take_line.new.input) _
+    c.in-Err-take_line.fault taken.1 room h.lines h.reported.later c.in-Err-take_line.ensures.fault
 
 pub returns-in-Err-take_line-clause-lacks : goal.returns-in-Err-take_line-clause-lacks
 returns-in-Err-take_line-clause-lacks g c =

@@ -1,14 +1,16 @@
 use Rattle.std.proofs.Common.{◌≡◌, ◌∙◌, ◌++◌, refl, ap}
+use Rattle.std.proofs.lemmas.Result.{on_ok_weaker}
 use Rattle.firefly_outside.proofs.SampleLines.{grown}
-use Rattle.index_find.proofs.Sieving.{keeps_word, then_ok}
+use Rattle.index_find.proofs.Sieving.{hits_word}
 use Rattle.index_find.proofs.sieve.SieveTaker.begin_row.Goals as goal
 
 pub returns : goal.returns
-returns c = λ first t k none. then_ok c.extend_from_slice.result _ _
+returns c = λ first t k none. on_ok_weaker c.extend_from_slice.result
     (λ (e : c.extend_from_slice.new.self.items ≡ c.clear.new.self.items ++ c.args.word.now). record {
       query = k.query;
       whole = k.whole;
-      keeps = keeps_word k.keeps c.args.word.now none;
+      rows = k.rows;
+      hits = hits_word k.hits c.args.word.now none;
       every_path = k.every_path;
       wanted = c.asks_for-self.ensures;
       word = e ∙ ap (λ l. l ++ c.args.word.now) c.clear.ensures.items;

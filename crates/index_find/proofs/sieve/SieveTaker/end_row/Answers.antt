@@ -1,15 +1,19 @@
 use Rattle.std.proofs.Common.{◌∙◌, sym, ap, Some}
-use Rattle.index_find.proofs.Sieving.{keeps_row, last_word_is, then_ok}
+use Rattle.std.proofs.lemmas.Result.{on_ok_weaker}
+use Rattle.index_find.proofs.Sieving.{rows_push, no_hits, last_word_is}
 use Rattle.index_find.proofs.sieve.SieveTaker.end_row.Goals as goal
 
 pub returns : goal.returns
 returns c = λ first t k.
     let now = c.args.self.now in
-    then_ok c.keep_row.result _ _
-    (λ h. record {
+    on_ok_weaker c.keep_row.result
+    (λ h.
+    let ended = rows_push k.hits k.rows now.wanted c.deref-2.result.now c.keep_row.new.draft k.wanted (c.deref-2.ensures.value ∙ k.word) h in
+    record {
       query = k.query;
       whole = k.whole;
-      keeps = keeps_row k.keeps now.wanted c.deref-2.result.now c.keep_row.new.draft k.wanted (c.deref-2.ensures.value ∙ k.word) h;
+      rows = ended.0;
+      hits = no_hits now.query c.keep_row.new.draft t.word ended.1;
       every_path = k.every_path;
       wanted = k.wanted;
       word = k.word;

@@ -1,13 +1,15 @@
 use Rattle.std.proofs.Common.{◌∙◌, sym}
-use Rattle.index_find.proofs.Sieving.{keeps_skipped, last_skipped_is, then_ok}
+use Rattle.std.proofs.lemmas.Result.{on_ok_weaker}
+use Rattle.index_find.proofs.Sieving.{last_skipped_is}
 use Rattle.index_find.proofs.sieve.SieveTaker.skip.Goals as goal
 
 pub returns : goal.returns
-returns c = λ first t k. then_ok c.set.result _ _
+returns c = λ first t k. on_ok_weaker c.set.result
     (λ e. record {
       query = k.query;
       whole = k.whole;
-      keeps = keeps_skipped k.keeps c.args.path.now;
+      rows = k.rows;
+      hits = k.hits;
       every_path = k.every_path;
       wanted = k.wanted;
       word = k.word;
