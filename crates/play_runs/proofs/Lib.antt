@@ -1,3 +1,4 @@
 pub mod Running
 pub mod Opening
 pub mod Silent
+pub mod Dealing
