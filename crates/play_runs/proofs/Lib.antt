@@ -2,3 +2,4 @@ pub mod Running
 pub mod Opening
 pub mod Silent
 pub mod Dealing
+pub mod Coming
