@@ -3,3 +3,4 @@ pub mod Opening
 pub mod Silent
 pub mod Dealing
 pub mod Coming
+pub mod Whole
