@@ -4,3 +4,4 @@ pub mod Silent
 pub mod Dealing
 pub mod Coming
 pub mod Whole
+pub mod Runs

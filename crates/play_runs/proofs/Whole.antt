@@ -283,3 +283,6 @@ module _ (l : Layout) (xs : List Line) (s : Scene) (e : Event) (es : List Event)
           ∙ sym (unmoved m (λ held. let both : some w ≡ some t = sym is ∙ held in absurd (p.1 (cc)))))
     ];
   }
+
+  pub goes_to : (w : Scene) × Goes l xs s e w × IsOn l xs w es × (w.spec ≡ u)
+  goes_to = (next, goes, goes_on, refl)
