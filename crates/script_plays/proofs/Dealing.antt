@@ -1,5 +1,5 @@
 -- What an event makes of who holds a mutex, and who gives it back first.
-use Rattle.std.proofs.Common.{◌≡◌, ◌≢◌, ◌⊎◌, inl, inr, ℕ, Bool, true, false, cond, eqb, List, [], ◌∷◌, ◌++◌, refl, ap, sym, subst, ◌∙◌}
+use Rattle.std.proofs.Common.{◌≡◌, ◌≢◌, inl, inr, ℕ, true, false, eqb, List, [], ◌∷◌, ◌++◌, refl, ap, sym, subst, ◌∙◌}
 use Rattle.std.proofs.lemmas.Bool.{ne_eqb, eq-eqb}
 use Rattle.std.proofs.lemmas.Bool.Decides.{eqb_tells}
 use mathlib.Core.Option.{Option, none, some}
@@ -7,16 +7,15 @@ use Rattle.larch_actions.specs.declared.event.Event.{Event}
 use Rattle.larch_actions.specs.declared.event.Version.{Version}
 use Rattle.larch_actions.specs.declared.event.Action.{Action}
 use Rattle.larch_actions.specs.declared.event.Action.TheVariants as action
-use Rattle.larch_actions.specs.Actions.{Leads, MayAct, Spec, acted, by_thread, put}
+use Rattle.larch_actions.specs.Actions.{Leads, MayAct, Spec, acted, by_thread}
 use Rattle.larch_actions.specs.Takers.{gives, givers}
 use Rattle.script_text.specs.declared.line.Line.{Line}
 use Rattle.script_text.specs.Runs.{event}
 use Rattle.script_text.specs.Visits.{Hand, Visit, gets, leaves, visits_at}
-use Rattle.script_plays.proofs.Bounded.{put_here, put_other}
 use Rattle.script_plays.proofs.Owning.{known, lines_after}
 use Rattle.script_plays.proofs.Swapping.{holder_stays}
-use Rattle.play_runs.proofs.Running.{Apart, Deal, Deals, Giving, MayDeal, Runs, Taking, deal, dealt, given, quiet_hand, quiet_lines}
-use Rattle.play_runs.proofs.Silent.{quiet_got}
+use Rattle.script_plays.proofs.Running.{Apart, Deal, Deals, Giving, MayDeal, Runs, Taking, deal, dealt, given, quiet_hand, quiet_lines}
+use Rattle.script_plays.proofs.Silent.{quiet_got}
 
 -- an action is one of three as to mutexes
 pub holder_dealt : (s : Spec) (t : ℕ) (a : Action) → (acted t s a).holder ≡ dealt t (deal a) s.holder

@@ -1,5 +1,5 @@
 -- The rows of a thread's lines are what the thread makes from its first line on.
-use Rattle.std.proofs.Common.{◌≡◌, ◌⊎◌, inl, inr, ℕ, zero, suc, ◌+◌, ◌<◌, ◌≤◌, Bool, true, false, cond, eqb, le-leb, List, [], ◌∷◌, ◌++◌, length, refl, ap, sym, subst, ◌∙◌, append-nil, append_assoc, arith}
+use Rattle.std.proofs.Common.{◌≡◌, ◌⊎◌, inl, inr, ℕ, zero, suc, ◌≤◌, true, false, le-leb, List, [], ◌∷◌, ◌++◌, length, refl, ap, sym, subst, ◌∙◌, append-nil, append_assoc}
 use Rattle.std.proofs.lemmas.Bool.{lt-leb}
 use Rattle.larch_actions.specs.declared.event.Event.{Event}
 use Rattle.larch_actions.specs.declared.event.Version.{Version}
@@ -17,8 +17,8 @@ use Rattle.script_plays.specs.declared.choice.Turn.{Turn}
 use Rattle.script_plays.specs.declared.choice.Turn.TheVariants.{Stays, Next}
 use Rattle.script_plays.specs.declared.choice.Choice.{Choice}
 use Rattle.script_plays.specs.Choices.{MayMake, Gives, is_silent, next, stays}
-use Rattle.script_plays.proofs.Owning.{known, lines_after}
-use Rattle.play_runs.proofs.Running.{Deal, Deals, Giving, Opens, Runs, Taking, deal, now, quiet_hand, quiet_lines, silently}
+use Rattle.script_plays.proofs.Owning.{lines_after}
+use Rattle.script_plays.proofs.Running.{Deal, Deals, Giving, Opens, Runs, Taking, deal, now, quiet_hand, quiet_lines, silently}
 
 -- one event, after which the thread goes on
 once : (t : ℕ) (o : Operation) (a : Action) (es : List Event) (hand : Hand) (vs : List Visit) (after : Hand) → is_silent o (now hand) ≡ false → MayMake o (next a) → Deals t (deal a) hand vs after

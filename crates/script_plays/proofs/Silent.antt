@@ -1,5 +1,5 @@
 -- The silent lines that a thread plays by the numbers in its hand are those that its scene plays.
-use Rattle.std.proofs.Common.{◌≡◌, ◌≢◌, ◌⊎◌, inl, inr, ℕ, zero, suc, ◌+◌, ◌<◌, Bool, true, false, cond, eqb, List, [], ◌∷◌, drop, take, refl, ap, sym, subst, ◌∙◌, arith}
+use Rattle.std.proofs.Common.{◌≡◌, ◌≢◌, inl, inr, ℕ, zero, suc, ◌+◌, ◌<◌, true, false, eqb, List, [], ◌∷◌, take, refl, ap, sym, subst, ◌∙◌, arith}
 use Rattle.std.proofs.lemmas.Bool.Decides.{eqb_tells}
 use mathlib.Core.Logic.{dite}
 use native.Mathlib.Decide.{ℕ_discrete}
@@ -7,15 +7,14 @@ use Rattle.larch_actions.specs.Actions.{put}
 use Rattle.script_text.specs.declared.line.Line.{Line}
 use Rattle.script_text.specs.declared.line.Operation.{Operation}
 use Rattle.script_text.specs.declared.line.Operation.TheVariants.{Add, Until, AlertUntil}
-use Rattle.script_text.specs.Table.{use_of}
 use Rattle.script_text.specs.Runs.{lines_of, added_by, total}
 use Rattle.script_text.specs.Visits.{Hand}
 use Rattle.script_plays.specs.Choices.{is_silent}
 use Rattle.script_plays.specs.Scenes.{rest_of, sum_below, number_of, settled_over}
 use Rattle.script_plays.proofs.Bounded.{put_here, put_other}
-use Rattle.script_plays.proofs.Owning.{Mine, MayHave, AreOwn, known, rest_next, silent_keeps}
+use Rattle.script_plays.proofs.Owning.{Mine, AreOwn, known, rest_next, silent_keeps}
 use Rattle.script_plays.proofs.Settling.{added, silent_alike, total_next}
-use Rattle.play_runs.proofs.Running.{IsLoud, now, quiet_hand, quiet_lines, silently}
+use Rattle.script_plays.proofs.Running.{IsLoud, now, quiet_hand, quiet_lines, silently}
 
 -- after the silent lines comes one that isn't, if any; and where none is silent nothing changes
 pub quiet_loud : (rest : List Line) (h : Hand) → IsLoud (quiet_lines rest h) (quiet_hand rest h)

@@ -1,8 +1,7 @@
--- The history of a run of a script is a whole play of it.
-use Rattle.std.proofs.Common.{◌≡◌, ◌≢◌, ◌⊎◌, inl, inr, ℕ, zero, suc, ◌+◌, ◌<◌, ◌≤◌, Bool, true, false, cond, eqb, List, [], ◌∷◌, ◌++◌, drop, length, take, refl, ap, sym, subst, ◌∙◌, append-nil, arith}
+-- An event of a run leads from a scene of its play to the next.
+use Rattle.std.proofs.Common.{◌≡◌, ◌≢◌, inl, inr, ℕ, suc, ◌+◌, ◌<◌, true, false, eqb, List, [], ◌∷◌, drop, take, refl, ap, sym, subst, ◌∙◌, arith}
 use Rattle.std.proofs.lemmas.Bool.{eq-eqb}
 use Rattle.std.proofs.lemmas.Bool.Decides.{eqb_tells}
-use Rattle.std.specs.List.{AllByRecursion}
 use mathlib.Core.Option.{Option, none, some}
 use Rattle.larch_actions.specs.declared.event.Event.{Event}
 use Rattle.larch_actions.specs.declared.event.Layout.{Layout}
@@ -31,10 +30,10 @@ use Rattle.script_plays.proofs.Bounded.{put_here, put_other, turned-other}
 use Rattle.script_plays.proofs.Commuting.{own_goes}
 use Rattle.script_plays.proofs.Owning.{AllOwn, AreOwn, Mine, holds_after, known, lines_after, mine_by, own_after, rest_turned, waits_on}
 use Rattle.script_plays.proofs.Settling.{added, step_adds, sum_alike, turned_adds}
-use Rattle.play_runs.proofs.Running.{Apart, Deal, Deals, Giving, IsLoud, MayDeal, Runs, Taking, deal, dealt, quiet_hand, quiet_lines}
-use Rattle.play_runs.proofs.Silent.{in_step, loud_hand, quiet_got, quiet_loud}
-use Rattle.play_runs.proofs.Dealing.{gives_first, holder_dealt, may_deal, number_held, was_held}
-use Rattle.play_runs.proofs.Coming.{Coming, Low, come_after, got_is, put_all, valued}
+use Rattle.script_plays.proofs.Running.{Apart, Deal, Deals, Giving, IsLoud, MayDeal, Runs, Taking, deal, dealt, quiet_hand, quiet_lines}
+use Rattle.script_plays.proofs.Silent.{in_step, loud_hand, quiet_got, quiet_loud}
+use Rattle.script_plays.proofs.Dealing.{gives_first, holder_dealt, may_deal, number_held, was_held}
+use Rattle.script_plays.proofs.Coming.{Coming, Low, come_after, got_is, valued}
 
 -- the mutex of an event is one of the layout
 low_deal : (l : Layout) (a : Action) → IsNamed l a → Low l (deal a)

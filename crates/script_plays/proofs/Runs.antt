@@ -1,6 +1,5 @@
--- The history of a run of a script is a whole play of it.
-use Rattle.std.proofs.Common.{◌≡◌, ◌≢◌, ◌⊎◌, inl, inr, ℕ, zero, suc, ◌<◌, ◌≤◌, Bool, true, false, cond, eqb, List, [], ◌∷◌, ◌++◌, drop, length, refl, ap, sym, subst, ◌∙◌, append-nil, arith}
-use Rattle.std.proofs.lemmas.Bool.{eq-eqb}
+-- The history of a run of a script is a whole play of the script.
+use Rattle.std.proofs.Common.{◌≡◌, ◌≢◌, inl, inr, ℕ, zero, suc, ◌≤◌, false, eqb, List, [], ◌∷◌, ◌++◌, drop, length, refl, ap, sym, subst, ◌∙◌, append-nil, arith}
 use Rattle.std.proofs.lemmas.Bool.Decides.{eqb_tells}
 use Rattle.std.specs.List.{AllByRecursion}
 use mathlib.Core.Option.{none}
@@ -12,7 +11,7 @@ use Rattle.larch_actions.specs.declared.event.Action.{Action}
 use Rattle.larch_actions.specs.declared.event.Action.TheVariants as action
 use Rattle.larch_actions.specs.declared.event.Life.{Life}
 use Rattle.larch_actions.specs.declared.event.Life.TheVariants.{Unborn, Live, Ended}
-use Rattle.larch_actions.specs.Actions.{Acts, AreOver, IsClosed, Leads, MayAct, Spec, acted, at_first, by_thread, put}
+use Rattle.larch_actions.specs.Actions.{AreOver, Leads, Spec, acted, at_first, by_thread}
 use Rattle.larch_actions.specs.Layout.{HasNames}
 use Rattle.script_text.specs.declared.line.Line.{Line}
 use Rattle.script_text.specs.declared.line.Operation.{Operation}
@@ -21,22 +20,18 @@ use Rattle.script_text.specs.Operations.{is_born, none_forked, forked_after, non
 use Rattle.script_text.specs.Runs.{event, lines_of, total}
 use Rattle.script_text.specs.Table.{use_of}
 use Rattle.script_text.specs.Text.{IsScript}
-use Rattle.script_text.specs.Visits.{AreThreadVisits, AreVisitsAndEnd, Hand, LeadTo, Visit, no_hand, visits_at, visits_by}
+use Rattle.script_text.specs.Visits.{AreThreadVisits, Hand, Visit, no_hand, visits_at, visits_by}
 use Rattle.script_text.specs.Visited.{AreVisited}
 use Rattle.script_plays.specs.declared.choice.Turn.TheVariants.{Stays}
 use Rattle.script_plays.specs.Choices.{is_silent}
-use Rattle.script_plays.specs.Plays.{AllFinished, IsFinished, IsPlayTo, IsWhole, Plays}
-use Rattle.script_plays.specs.Scenes.{Scene, first_scene, number_of, rest_of, sum_below}
-use Rattle.script_plays.proofs.Bounded.{put_here, put_other}
-use Rattle.script_plays.proofs.Owning.{AllOwn, AreOwn, MayHave, Mine, known, own_first, own_lines}
-use Rattle.play_runs.proofs.Running.{IsLoud, Rests, Runs, now, quiet_hand, quiet_lines}
-use Rattle.play_runs.proofs.Opening.{runs_of}
-use Rattle.play_runs.proofs.Silent.{loud_hand, loud_lines}
-use Rattle.play_runs.proofs.Coming.{Coming}
-use Rattle.play_runs.proofs.Whole.{IsOn, goes_to}
-
-abbrev pub RunsAreWhole : Type 0
-RunsAreWhole = (l : Layout) (xs : List Line) (h : List Event) → IsScript l xs → IsClosed l.version h → AllByRecursion (HasNames l) h → AreVisited l xs h → IsWhole l xs h
+use Rattle.script_plays.specs.Laws.{RunsAreWhole}
+use Rattle.script_plays.specs.Plays.{IsFinished, Plays}
+use Rattle.script_plays.specs.Scenes.{Scene, first_scene, rest_of, sum_below}
+use Rattle.script_plays.proofs.Owning.{AreOwn, MayHave, Mine, known, own_first, own_lines}
+use Rattle.script_plays.proofs.Running.{IsLoud, Runs, now, quiet_hand, quiet_lines}
+use Rattle.script_plays.proofs.Opening.{runs_of}
+use Rattle.script_plays.proofs.Silent.{loud_hand, loud_lines}
+use Rattle.script_plays.proofs.Stepping.{IsOn, goes_to}
 
 -- event by event
 plays_on : (l : Layout) (xs : List Line) (es : List Event) (s : Scene) (z : Spec) → AllByRecursion (HasNames l) es → Leads s.spec es z → ((m : ℕ) → z.holder m ≡ none) → IsOn l xs s es

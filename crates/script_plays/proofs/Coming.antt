@@ -1,5 +1,5 @@
 -- The visits that are still to come, of each thread and to each mutex.
-use Rattle.std.proofs.Common.{◌≡◌, ◌≢◌, inl, inr, ℕ, ◌<◌, Bool, true, false, cond, eqb, List, [], ◌∷◌, ◌++◌, map, refl, ap, sym, subst, ◌∙◌}
+use Rattle.std.proofs.Common.{◌≡◌, ◌≢◌, inl, inr, ℕ, ◌<◌, true, false, List, [], ◌∷◌, ◌++◌, map, refl, ap, sym, subst, ◌∙◌}
 use Rattle.std.proofs.lemmas.Bool.{ne_eqb, eq-eqb}
 use Rattle.std.proofs.lemmas.Bool.Decides.{eqb_tells}
 use Rattle.larch_actions.specs.declared.event.Event.{Event}
@@ -7,8 +7,8 @@ use Rattle.larch_actions.specs.declared.event.Layout.{Layout}
 use Rattle.larch_actions.specs.Actions.{put}
 use Rattle.larch_actions.specs.Takers.{gives, givers}
 use Rattle.script_text.specs.Visits.{Hand, LeadTo, Visit, leaves, visits_at, visits_by}
-use Rattle.play_runs.proofs.Running.{Apart, Deal, Deals, Giving, Taking, deal, given}
-use Rattle.play_runs.proofs.Dealing.{gives_given, givers_now, givers_skip}
+use Rattle.script_plays.proofs.Running.{Apart, Deal, Deals, Giving, Taking, deal, given}
+use Rattle.script_plays.proofs.Dealing.{gives_given, givers_now, givers_skip}
 
 -- those of each thread and those to each mutex are the same ones, who gives a mutex back are theirs, and they lead on from the number that it has
 pub record Coming (l : Layout) (es : List Event) (of : ℕ → List Visit) (at : ℕ → List Visit) (value : ℕ → ℕ) : Type 0 where
