@@ -10,7 +10,7 @@ use text_output::push_with_number;
 /// The lines of a cycle of at most 64 mutexes, each of at most 87 bytes.
 pub type Lines = ArrayString<8192>;
 
-/// The line of a trace that has no cycle.
+/// Returns the line of a trace that has no cycle.
 pub fn no_cycle(events: u64) -> ArrayString<64>
     ensures { result.bytes ≡ no_cycle_line events }
 {
@@ -33,7 +33,7 @@ fn push_edge(text: &mut Lines, edge: &Edge)
     text.push_str("\n");
 }
 
-/// The lines of a cycle.
+/// Returns the lines of a cycle.
 pub fn lines_of(cycle: &Cycle) -> Lines
     ensures { result.bytes ≡ cycle_text cycle.now }
 {

@@ -10,7 +10,7 @@ use trace_check::Summary;
 /// A line with its newline.
 pub type Line = ArrayString<128>;
 
-/// The line of a legal trace.
+/// Returns the line of a legal trace.
 pub fn legal(s: &Summary) -> Line
     ensures { result.bytes ≡ legal_line s.now }
 {
@@ -36,7 +36,7 @@ fn word_of(why: Broken) -> &'static str
     }
 }
 
-/// The line of the first event that fails.
+/// Returns the line of the first event that fails.
 pub fn illegal(place: u64, why: Broken) -> Line
     ensures { result.bytes ≡ illegal_line place why }
 {

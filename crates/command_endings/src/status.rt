@@ -27,7 +27,7 @@ pub enum Status {
     TooLong,
 }
 
-/// The number with which the program ends.
+/// Returns the number with which the program ends.
 pub fn number(s: &Status) -> u8
     ensures { result ≡ number_of s.now }
 {

@@ -20,7 +20,7 @@ fn left_after(line: &Line, thread: u32, left: u32) -> Option<u32>
     if left == 0 { None } else { Some(left - 1) }
 }
 
-/// The place of the thread's line that comes after `played` others of it, if there is one.
+/// Returns the place of the thread's line that comes after `played` of its lines, if there is one.
 pub fn place_of(lines: &[Line], thread: u32, played: u32) -> Option<usize>
     ensures { MatchOption result (drop played (lines_of thread lines.now) ≡ [])
         (λ i. (i ≡ lines_before thread played lines.now) × (i < length lines.now)
@@ -36,7 +36,7 @@ pub fn place_of(lines: &[Line], thread: u32, played: u32) -> Option<usize>
     None
 }
 
-/// How many lines the text has before those of the threads.
+/// Returns how many lines the text has before those of the threads.
 pub fn head(version: Version) -> u64
     ensures { result ≡ head_lines version }
 {

@@ -95,7 +95,7 @@ fn push_line(text: &mut String, line: &Text) -> Result<(), AllocError>
     text.push_str(line.as_str())
 }
 
-/// What is said of a play that gets stuck.
+/// Returns what is reported of a play that gets stuck.
 pub fn report(alloc: Global, script: &Script, stuck: &Stuck) -> Result<String, AllocError>
     requires { IsBoard script.now.layout (moment_of stuck.now.board) }
     ensures { IfOk result (λ text. string_bytes text ≡ stuck_text script.now.layout script.now.lines stuck.now.events.items

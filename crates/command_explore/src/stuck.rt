@@ -13,7 +13,7 @@ pub enum ExploreStatus {
     As(Status),
 }
 
-/// The number with which the program ends.
+/// Returns the number with which the program ends.
 pub fn number(s: &ExploreStatus) -> u8
     ensures { result ≡ number_of s.now }
 {

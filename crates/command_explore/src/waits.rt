@@ -137,7 +137,7 @@ fn push_waits(text: &mut Text, board: &Board, numbers: &[u64], thread: u32, oper
     }
 }
 
-/// The line of a thread that stands at this line of the script's text.
+/// Returns the line of a thread that stands at this line of the script's text.
 pub fn at_line(
     board: &Board,
     numbers: &[u64],
@@ -156,7 +156,7 @@ pub fn at_line(
     text
 }
 
-/// The line of a thread of which these words are said.
+/// Returns the line that says these words of a thread.
 pub fn said_of(thread: u32, words: &str) -> Text
     requires few { length words.now ≤ 32 }
     ensures { result.bytes ≡ thread_text thread ++ words.now }

@@ -32,7 +32,7 @@ fn read_joined(word: &str) -> Option<u32>
     }
 }
 
-/// How many states the words allow. There is none if they ask for nothing of this kind.
+/// Returns how many states the words allow, or `None` if they are no such words.
 pub fn read_limit(said: &[String]) -> Option<u32>
     ensures found { IfSome result (AsksFor (map string_bytes said.now)) }
     ensures none { IfNone result ((n : ℕ) → AsksFor (map string_bytes said.now) n → ⊥) }

@@ -28,7 +28,8 @@ fn read_within(words: &[String]) -> Option<(u64, &[String])>
     }
 }
 
-/// How many bytes the index may have, and the words of the query. There are none where `--limit` comes first without such a number.
+/// Returns how many bytes the index may have, and the words of the query, or `None` if `--limit`
+/// comes first without such a number.
 pub fn read_limit(words: &[String]) -> Option<(u64, &[String])>
     ensures found { IfSome result (λ r. Asks (map string_bytes words.now) r.0 (map string_bytes r.1.now)) }
     ensures few { IfSome result (λ r. r.0 ≤ most_bytes) }

@@ -12,7 +12,7 @@ use clap::{Arg, ArgAction, ArgMatches};
 use std::alloc::{AllocError, Global};
 use text_output::read_number;
 
-/// The options that the words after `index` or `trace` say.
+/// Reads the options from the words after `index` or `trace`.
 pub(crate) fn read_options<'a>(
     alloc: Global,
     words: &'a [String],

@@ -79,7 +79,7 @@ pub visited_once : (p : Shape RoundWorld) (t v : ℕ) (X : Type 0) (r : RoundSha
 visited_once p t v X r x a e first rest same ran held share has one offers =
     let is = agreed_share X v r has in
     let stint : RoundStint = record { thread = a.number; mutex = 2; got = x; left = Once (Some v); before = fresh_share; after = once_share x (Once (Some v)) fresh_share } in
-    let walked = walked_once t v r stint refl refl refl refl offers is.0 is.1 is.3 in
+    let walked = walked_once t v r stint refl refl refl offers is.0 is.1 is.3 in
     visited p t 2 fresh_share r [] a e (first_between p t a first) rest same ran held share (subst (HasWalked t r ([] ++ visit t 2)) (sym (one ∙ ap (λ l. l ++ stint ∷ []) first.stints)) walked)
 
 -- after an arrival

@@ -9,6 +9,10 @@ use Rattle.trace_core.specs.Whole.{numbered}
 pub same_some : {A : Type 0} (o : Option A) (x y : A) → o ≡ Some x → o ≡ Some y → x ≡ y
 same_some o x y p q = cc
 
+-- what holds of the trace holds of the history
+pub at_trace : {A : Type 0} (P : A → Type 0) (trace : Option A) (h : A) → trace ≡ Some h → (x : A) × (trace ≡ Some x) × P x → P h
+at_trace P trace h is x = subst P (same_some trace x.0 h x.1 is) x.2
+
 pub three_same : (a b c x y z : ℕ) → (a ≡ x) × (b ≡ y) × (c ≡ z) → a ∷ b ∷ c ∷ [] ≡ x ∷ y ∷ z ∷ []
 three_same a b c x y z e = ap (λ k. k ∷ b ∷ c ∷ []) e.0 ∙ (ap (λ k. x ∷ k ∷ c ∷ []) e.1 ∙ ap (λ k. x ∷ y ∷ k ∷ []) e.2)
 

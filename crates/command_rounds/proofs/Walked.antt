@@ -28,7 +28,7 @@ pub not_walked : (t : ℕ) → HasWalked t fresh_share [] []
 not_walked t = record { walks = refl; arrivals = refl; left = refl; kept = tt; begun = λ v e. no_value (HasBegun t v []) v e }
 
 begun_more : (t v : ℕ) (ss rs : List RoundStint) → HasBegun t v ss → HasBegun t v (ss ++ rs)
-begun_more t v ss rs b = record { first = b.first; others = b.others ++ rs; are = ap (λ l. l ++ rs) b.are; mutex = b.mutex; before = b.before; agreed = b.agreed; offers = b.offers }
+begun_more t v ss rs b = record { first = b.first; others = b.others ++ rs; are = ap (λ l. l ++ rs) b.are; mutex = b.mutex; before = b.before; offers = b.offers }
 
 -- a visit to another mutex than the bar
 visit_walks : (t m came left : ℕ) → eqb m 0 ≡ false → Walks 0 came left (visit t m) []
@@ -69,11 +69,11 @@ pub walked_sum : (t : ℕ) (s r : RoundShare) (x : RoundStint) (es : List Event)
 walked_sum t s r x es ss mutex kept arrivals left agreed w = walked_visit t 1 s r x es ss refl mutex kept arrivals left (λ v e. begun_more t v ss (x ∷ []) (w.begun v (sym agreed ∙ e))) w
 
 -- after the first call
-pub walked_once : (t v : ℕ) (r : RoundShare) (x : RoundStint) → x.mutex ≡ 2 → x.before ≡ fresh_share → x.after.arrivals ≡ 0 → x.after.agreed ≡ Some v → (once_of x.got ≡ None → v ≡ t + 1) → r.arrivals ≡ 0 → r.left ≡ 0 → r.agreed ≡ Some v
+pub walked_once : (t v : ℕ) (r : RoundShare) (x : RoundStint) → x.mutex ≡ 2 → x.before ≡ fresh_share → x.after.arrivals ≡ 0 → (once_of x.got ≡ None → v ≡ t + 1) → r.arrivals ≡ 0 → r.left ≡ 0 → r.agreed ≡ Some v
     → HasWalked t r ([] ++ visit t 2) (x ∷ [])
-walked_once t v r x mutex before none agrees offers arrivals left agreed =
+walked_once t v r x mutex before none offers arrivals left agreed =
     let kept : x.after.arrivals ≡ x.before.arrivals = none ∙ sym (ap (λ (u : RoundShare). u.arrivals) before) in
-    let begun : HasBegun t v (x ∷ []) = record { first = x; others = []; are = refl; mutex = mutex; before = before; agreed = agrees; offers = offers } in
+    let begun : HasBegun t v (x ∷ []) = record { first = x; others = []; are = refl; mutex = mutex; before = before; offers = offers } in
     walked_visit t 2 fresh_share r x [] [] refl mutex kept arrivals left (λ u e. subst (λ n. HasBegun t n (x ∷ [])) (same_Some v u (sym agreed ∙ e)) begun) (not_walked t)
 
 -- the stints of a walk are with its mutex

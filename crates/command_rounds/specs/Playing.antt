@@ -39,7 +39,6 @@ pub record HasBegun (t v : ℕ) (ss : List RoundStint) : Type 0 where
   pub are : ss ≡ first ∷ others
   pub mutex : first.mutex ≡ 2
   pub before : first.before ≡ fresh_share
-  pub agreed : first.after.agreed ≡ Some v
   pub offers : once_of first.got ≡ None → v ≡ t + 1
 
 -- the thread t with this share has made these events and stints

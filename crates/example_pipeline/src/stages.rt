@@ -126,7 +126,7 @@ fn take_all<R: Wait>(
     unreachable!()
 }
 
-/// The stage of the thread: thread 0 makes, thread 1 works, and thread 2 takes.
+/// Runs the stage of the thread: thread 0 makes, thread 1 works, and thread 2 takes.
 pub fn stage<R: Wait>(
     rt: &R,
     alloc: Global,

@@ -18,9 +18,10 @@ use Rattle.word_index.specs.Index.{Index, IsRising}
 use Rattle.word_index.specs.Words.{file_words}
 use Rattle.walker.specs.TreeIndex.{IsTreeIndex}
 use Rattle.script_text.specs.declared.line.Line.{Line}
+use Rattle.script_plays.specs.Plays.{IsWhole}
 use Rattle.command_rounds.specs.RoundsCommand.{IsRoundsTrace}
 use Rattle.firefly.specs.Looks.{Look}
-use Rattle.firefly.specs.RunCommand.{IsTraceOf}
+use Rattle.firefly.specs.RunCommand.{IsRunOf, IsTraceOf}
 use Rattle.firefly.specs.TraceCommand.{IsIndexTrace}
 
 -- the trace of a run of a script is accepted
@@ -34,6 +35,10 @@ AcceptsIndexRuns = (o : Options) (old new : List (Option Look)) (bytes : List �
 -- and that of rounds
 abbrev pub AcceptsRounds : Type 0
 AcceptsRounds = (threads rounds : ℕ) (bytes : List ℕ) → IsRoundsTrace threads rounds bytes → IsAccepted bytes
+
+-- the history that `run` writes is a whole play of the script that it read
+abbrev pub RunsAreWholePlays : Type 0
+RunsAreWholePlays = (input : Change) (bytes : List ℕ) (run : IsRunOf input bytes) → IsWhole run.layout run.lines run.trace.events
 
 -- two indexes of the files under a root of a tree are the same
 abbrev pub IsOneIndex : Type 0

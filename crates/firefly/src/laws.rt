@@ -1,9 +1,14 @@
 //! Laws of the commands.
-ghost use Rattle.firefly.specs.Laws.{AcceptsRuns, AcceptsIndexRuns, AcceptsRounds, FindsIndexed, IsOneIndex};
+ghost use Rattle.firefly.specs.Laws.{AcceptsRuns, AcceptsIndexRuns, AcceptsRounds, FindsIndexed, IsOneIndex, RunsAreWholePlays};
 
 /// `check` accepts what `run` writes.
 pub fn check_accepts_runs()
     ensures { AcceptsRuns }
+{}
+
+/// What `run` writes is a whole play of its script: one of the histories that `explore` searches.
+pub fn runs_are_whole_plays()
+    ensures { RunsAreWholePlays }
 {}
 
 /// `check` accepts what `trace` writes.

@@ -158,7 +158,7 @@ fn is_json(said: &[String]) -> bool
     }
 }
 
-/// What the words ask for. There is none where they ask for nothing of this kind.
+/// Returns what the words ask for, or `None` if they are no such words.
 pub fn read_request(said: &[String]) -> Option<Request>
     ensures found { IfSome result (Requests (map string_bytes said.now)) }
     ensures none { IfNone result ((r : Request) → Requests (map string_bytes said.now) r → ⊥) }

@@ -18,7 +18,7 @@ use Rattle.larch_actions.specs.declared.event.Version.TheVariants.{One, Two}
 use Rattle.larch_actions.specs.Actions.{Spec, MayAct, acted, put, lives_at_first}
 use Rattle.script_text.specs.declared.line.Line.{Line}
 use Rattle.script_text.specs.declared.line.Operation.{Operation}
-use Rattle.script_text.specs.declared.line.Operation.TheVariants.{Acquire, Release, Wait, AlertWait, Signal, Broadcast, P, V, Alert, TestAlert, AlertP, Add, Until, AlertUntil, Fork, Join}
+use Rattle.script_text.specs.declared.line.Operation.TheVariants.{Wait, AlertWait, Signal, TestAlert, AlertP, Add, Until, AlertUntil}
 use Rattle.script_text.specs.Runs.{lines_of}
 use Rattle.script_plays.specs.declared.choice.Turn.{Turn}
 use Rattle.script_plays.specs.declared.choice.Turn.TheVariants.{Stays, Next}

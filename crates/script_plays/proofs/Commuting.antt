@@ -16,7 +16,7 @@ use Rattle.larch_actions.specs.declared.event.Pending.TheVariants.{Nothing}
 use Rattle.larch_actions.specs.Actions.{Spec, KeepsOrder, MayAct, acted}
 use Rattle.script_text.specs.declared.line.Line.{Line}
 use Rattle.script_text.specs.declared.line.Operation.{Operation}
-use Rattle.script_text.specs.declared.line.Operation.TheVariants.{Acquire, Release, Wait, AlertWait, Signal, Broadcast, P, V, Alert, TestAlert, AlertP, Add, Until, AlertUntil, Fork, Join}
+use Rattle.script_text.specs.declared.line.Operation.TheVariants.{Add, Fork}
 use Rattle.script_text.specs.declared.table.Fate.{Fate}
 use Rattle.script_text.specs.declared.table.Fate.TheVariants as fate
 use Rattle.script_text.specs.Table.{fate_of}

@@ -5,3 +5,10 @@ pub mod Swapping
 pub mod Settling
 pub mod Commuting
 pub mod Reduced
+pub mod Running
+pub mod Opening
+pub mod Silent
+pub mod Dealing
+pub mod Coming
+pub mod Stepping
+pub mod Runs

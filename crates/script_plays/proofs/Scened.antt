@@ -8,13 +8,13 @@ use Rattle.larch_actions.specs.declared.event.Version.TheVariants.{One, Two}
 use Rattle.larch_actions.specs.Actions.{Leads}
 use Rattle.script_text.specs.declared.line.Line.{Line}
 use Rattle.script_text.specs.declared.line.Operation.{Operation}
-use Rattle.script_text.specs.declared.line.Operation.TheVariants.{Acquire, Release, Wait, AlertWait, Signal, Broadcast, P, V, Alert, TestAlert, AlertP, Add, Until, AlertUntil, Fork, Join}
+use Rattle.script_text.specs.declared.line.Operation.TheVariants.{Add}
 use Rattle.script_plays.specs.declared.choice.Turn.{Turn}
 use Rattle.script_plays.specs.declared.choice.Choice.{Choice}
 use Rattle.script_plays.specs.Choices.{MayMake, Gives}
 use Rattle.script_plays.specs.Scenes.{Scene, first_scene, rest_of, settled, turned}
 use Rattle.script_plays.specs.Plays.{Goes, Plays}
-use Rattle.script_plays.specs.Laws.{PlaysAreLegal, PlaysHaveOneScene, EndsExcludesStuck}
+use Rattle.script_plays.specs.Laws.{PlaysAreLegal, PlaysHaveOneScene, EndsExcludesStuck, BeginningsArePlays}
 
 -- the events of a play lead as far in the state
 pub plays_lead : (l : Layout) (xs : List Line) (s : Scene) (h : List Event) (u : Scene) → Plays l xs s h u → Leads s.spec h u.spec
@@ -59,6 +59,14 @@ plays_have_one_scene l xs h s u p q = plays_one l xs (first_scene l.version) h s
 pub plays_more : (l : Layout) (xs : List Line) (s : Scene) (h : List Event) (u : Scene) (e : Event) (w : Scene) → Plays l xs s h u → Goes l xs u e w → Plays l xs s (h ++ e ∷ []) w
 plays_more l xs s [] u e w p g = (w, subst (λ (z : Scene). Goes l xs z e w) (sym p) g, refl)
 plays_more l xs s (x ∷ h) u e w p g = (p.0, p.1, plays_more l xs p.0 h u e w p.2 g)
+
+-- the beginning of a play
+plays_begin : (l : Layout) (xs : List Line) (s : Scene) (h g : List Event) (w : Scene) → Plays l xs s (h ++ g) w → (u : Scene) × Plays l xs s h u
+plays_begin l xs s [] g w p = (s, refl)
+plays_begin l xs s (x ∷ h) g w p = let r = plays_begin l xs p.0 h g w p.2 in (r.0, (p.0, p.1, r.1))
+
+pub beginnings_are_plays : BeginningsArePlays
+beginnings_are_plays l xs h g p = plays_begin l xs (first_scene l.version) h g p.0 p.1
 
 -- the last event of a play
 pub plays_last : (l : Layout) (xs : List Line) (s : Scene) (h : List Event) (e : Event) (w : Scene) → Plays l xs s (h ++ e ∷ []) w → (u : Scene) × Plays l xs s h u × Goes l xs u e w

@@ -31,17 +31,17 @@ record Alike (xs : List Line) (t : ℕ) (mine : Mine) (p q : ℕ → ℕ) : Type
 put_at : (f : ℕ → ℕ) (t x u : ℕ) → u ≡ t → put f t x u ≡ x
 put_at f t x u is = subst (λ (i : ℕ). put f t x i ≡ x) (sym is) (put_here f t x)
 
-sum_alike : (f g : ℕ → ℕ) (n : ℕ) → ((t : ℕ) → f t ≡ g t) → sum_below f n ≡ sum_below g n
+pub sum_alike : (f g : ℕ → ℕ) (n : ℕ) → ((t : ℕ) → f t ≡ g t) → sum_below f n ≡ sum_below g n
 sum_alike f g n all = λ i. sum_below (λ t. all t i) n
 
-silent_alike : (o : Operation) (mine : Mine) (f g : ℕ → ℕ) → MayHave (use_of o) mine → ((m : ℕ) → mine m ≡ true → f m ≡ g m) → is_silent o f ≡ is_silent o g
+pub silent_alike : (o : Operation) (mine : Mine) (f g : ℕ → ℕ) → MayHave (use_of o) mine → ((m : ℕ) → mine m ≡ true → f m ≡ g m) → is_silent o f ≡ is_silent o g
 silent_alike (Add m k) mine f g has same = refl
 silent_alike (Until m c k) mine f g has same = ap (nat_le k) (same m.0 has)
 silent_alike (AlertUntil m c k) mine f g has same = ap (nat_le k) (same m.0 has)
 silent_alike _ mine f g has same = refl
 
 -- lines of a thread, one of which is the first of the rest
-total_next : (ys : List Line) (k m : ℕ) (x : Line) (rest : List Line) → drop k ys ≡ x ∷ rest → total (take (suc k) ys) m ≡ total (take k ys) m + added_by x.operation m
+pub total_next : (ys : List Line) (k m : ℕ) (x : Line) (rest : List Line) → drop k ys ≡ x ∷ rest → total (take (suc k) ys) m ≡ total (take k ys) m + added_by x.operation m
 total_next [] zero m x rest e = absurd (cc)
 total_next [] (suc k) m x rest e = absurd (cc)
 total_next (y ∷ ys) zero m x rest e = let same : y ≡ x = cc in ap (λ (z : Line). added_by z.operation m + 0) same ∙ (omega arith)
@@ -120,13 +120,13 @@ module _ (n : ℕ) (xs : List Line) (t : ℕ) where
   next_adds One (x ∷ rest) p a m e gives = line_adds x rest p (record { action = a; turn = Next }) m e gives
   next_adds Two (x ∷ rest) p a m e gives = line_adds x rest p (record { action = a; turn = Next }) m e gives
 
-  turned_adds : (v : Version) (turn : Turn) (p : ℕ → ℕ) (a : Action) (m : ℕ) → Gives v (rest_of xs p t) (record { action = a; turn = turn }) → added xs (turned turn t p) t m ≡ added xs p t m
+  pub turned_adds : (v : Version) (turn : Turn) (p : ℕ → ℕ) (a : Action) (m : ℕ) → Gives v (rest_of xs p t) (record { action = a; turn = turn }) → added xs (turned turn t p) t m ≡ added xs p t m
   turned_adds v Stays p a m gives = refl
   turned_adds v Next p a m gives = next_adds v (rest_of xs p t) p a m refl gives
 
 -- an event of a thread changes the numbers of its own mutexes alone
 module _ (n : ℕ) (xs : List Line) (v : Version) where
-  step_adds : (t : ℕ) (turn : Turn) (p : ℕ → ℕ) (a : Action) (mine : Mine) → Gives v (rest_of xs p t) (record { action = a; turn = turn }) → AreOwn mine (rest_of xs (turned turn t p) t)
+  pub step_adds : (t : ℕ) (turn : Turn) (p : ℕ → ℕ) (a : Action) (mine : Mine) → Gives v (rest_of xs p t) (record { action = a; turn = turn }) → AreOwn mine (rest_of xs (turned turn t p) t)
       → (m u : ℕ) → mine m ≡ false → added xs (settled n xs t (turned turn t p)) u m ≡ added xs p u m
   step_adds t turn p a mine gives own m u not = elim (eqb_tells u t) [
     | inl e ↦

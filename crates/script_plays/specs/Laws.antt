@@ -1,9 +1,13 @@
 -- Laws of plays.
 use Rattle.std.specs.Prelude.{◌≡◌, ◌+◌, ◌*◌, ◌≤◌, List, ◌++◌, length}
+use Rattle.std.specs.List.{AllByRecursion}
 use Rattle.larch_actions.specs.declared.event.Event.{Event}
 use Rattle.larch_actions.specs.declared.event.Layout.{Layout}
-use Rattle.larch_actions.specs.Actions.{IsRun}
+use Rattle.larch_actions.specs.Actions.{IsClosed, IsRun}
+use Rattle.larch_actions.specs.Layout.{HasNames}
 use Rattle.script_text.specs.declared.line.Line.{Line}
+use Rattle.script_text.specs.Text.{IsScript}
+use Rattle.script_text.specs.Visited.{AreVisited}
 use Rattle.script_plays.specs.Scenes.{Scene}
 use Rattle.script_plays.specs.Plays.{IsPlayTo, IsPlay, IsWhole, IsStuck, Ends}
 
@@ -27,3 +31,12 @@ PlaysAreBounded =
 -- each play of a script that ends is the beginning of a whole one
 abbrev pub PlaysCanBeFinished : Type 0
 PlaysCanBeFinished = (l : Layout) (xs : List Line) (h : List Event) → Ends l xs → IsPlay l xs h → (g : List Event) × IsWhole l xs (h ++ g)
+
+-- A legal and closed history is a whole play if the numbers along it are those of the lines. So what is known of all plays of a
+-- script is known of each of its runs.
+abbrev pub RunsAreWhole : Type 0
+RunsAreWhole = (l : Layout) (xs : List Line) (h : List Event) → IsScript l xs → IsClosed l.version h → AllByRecursion (HasNames l) h → AreVisited l xs h → IsWhole l xs h
+
+-- the beginning of a play is a play: where a script ends, no run of it is stuck at any time
+abbrev pub BeginningsArePlays : Type 0
+BeginningsArePlays = (l : Layout) (xs : List Line) (h g : List Event) → IsPlay l xs (h ++ g) → IsPlay l xs h

@@ -1,6 +1,6 @@
 //! Laws of plays.
 ghost use Rattle.script_plays.specs.Reduced.{StuckPlaysAreReduced, ReducedPlaysDecide};
-ghost use Rattle.script_plays.specs.Laws.{PlaysAreLegal, PlaysHaveOneScene, EndsExcludesStuck, PlaysAreBounded, PlaysCanBeFinished};
+ghost use Rattle.script_plays.specs.Laws.{PlaysAreLegal, PlaysHaveOneScene, EndsExcludesStuck, PlaysAreBounded, PlaysCanBeFinished, BeginningsArePlays, RunsAreWhole};
 
 /// A play is a legal list of events.
 pub fn plays_are_legal()
@@ -35,4 +35,14 @@ pub fn stuck_plays_are_reduced()
 /// Where each of those is whole or can go on, each play is.
 pub fn reduced_plays_decide()
     ensures { ReducedPlaysDecide }
+{}
+
+/// The history of a run, with the numbers that its threads got and left, is a whole play of its script.
+pub fn runs_are_whole()
+    ensures { RunsAreWhole }
+{}
+
+/// The beginning of a play is a play, so no run of a script that ends is stuck at any time.
+pub fn beginnings_are_plays()
+    ensures { BeginningsArePlays }
 {}

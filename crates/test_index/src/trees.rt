@@ -4,7 +4,7 @@ use std::alloc::Global;
 use std::test::Fail;
 use test_project::{put_dir, put_file, tree_with};
 
-/// All paths of the small tree.
+/// Returns all paths of the small tree.
 pub fn small_paths() -> [&'static str; 5] {
     ["proj", "proj/d", "proj/a", "proj/d/b", "proj/d/c"]
 }

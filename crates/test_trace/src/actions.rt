@@ -16,7 +16,7 @@ fn first() -> State
     State::new(Layout::of(2, 1, 1, 1))
 }
 
-// The action of this thread. Of what the step tells only the layout is said here, so no more is alive in the tests.
+// Applies the action of this thread. It promises only the layout, so that no more is alive in the tests.
 fn step(state: &mut State, thread: u32, action: Action) -> Result<(), Broken>
     requires board { state.old.layout ≡ board }
     requires thread { thread < 2 }

@@ -2,7 +2,7 @@
 use firefly_outside::{Failed, MemSource, Source};
 use std::alloc::{AllocError, Global};
 
-/// A source that gives this text, and fails after so many bytes if a number is given.
+/// Makes a source that gives this text, and fails after so many bytes if a number is given.
 pub fn source_of(
     alloc: Global,
     text: &[u8],

@@ -40,7 +40,7 @@ impl Write for Flaky {
     }
 }
 
-// What a source answers. What it tells besides is then not alive in the tests, and so with the sinks below.
+// Asks a source, and keeps nothing alive of its other promises in the tests. So do the sinks below.
 fn ask<S: Source>(source: &mut S, buf: &mut [u8]) -> Result<usize, Failed>
     requires { 0 < length buf.old }
 {

@@ -10,7 +10,7 @@ fn head() -> &'static [u8] {
     b"firefly-trace 1\nthreads 2 mutexes 1 conditions 0 semaphores 1\n"
 }
 
-/// The text with these lines after its head, which has 62 bytes.
+/// Returns the text with these lines after its head, which has 62 bytes.
 pub fn trace_of(alloc: Global, lines: &[u8]) -> Result<Vec<u8>, AllocError> {
     let mut text = head().to_vec(alloc)?;
     text.extend_from_slice(lines)?;

@@ -12,7 +12,7 @@ use Rattle.command_rounds.specs.Playing.{AreTotals}
 use Rattle.command_rounds.proofs.Apart.{all_come, stinted_of}
 use Rattle.command_rounds.proofs.Closing.{begins, closed_values, parts_of}
 use Rattle.command_rounds.proofs.First.{of_first}
-use Rattle.command_rounds.proofs.Printed.{same_some}
+use Rattle.command_rounds.proofs.Printed.{at_trace}
 use Rattle.command_rounds.proofs.run.play_rounds.Goals as goal
 
 pub open_package-requires-clause-holds : goal.open_package-requires-clause-holds
@@ -60,12 +60,10 @@ returns-clause-apart g c = λ h reported.
     let world = c.in_ok-p.ensures.package.2 in
     let threads = c.in_ok-threads.threads.items in
     let values = c.in_ok-closed.closed.values in
-    let whole = c.in_ok-closed.ensures.traced traced in
-    let kept = c.in_ok-closed.ensures.stints traced in
     let count = c.in_ok-p.ensures.count ∙ ap (λ l. l.threads) c.of-layout.ensures in
     let same = c.in_ok-threads.ensures.count in
-    let here = subst (λ (z : List Event). IsWhole c.in_ok-p.p.layout threads z) (same_some c.in_ok-closed.closed.trace whole.0 h whole.1 reported) whole.2 in
-    let keeps = subst (λ (z : List Event). KeepsStints (AreRounds c.in_ok-p.p.world) threads values z) (same_some c.in_ok-closed.closed.trace kept.0 h kept.1 reported) kept.2 in
+    let here = at_trace (λ (z : List Event). IsWhole c.in_ok-p.p.layout threads z) c.in_ok-closed.closed.trace h reported (c.in_ok-closed.ensures.traced traced) in
+    let keeps = at_trace (λ (z : List Event). KeepsStints (AreRounds c.in_ok-p.p.world) threads values z) c.in_ok-closed.closed.trace h reported (c.in_ok-closed.ensures.stints traced) in
     let size : length threads ≡ c.args.threads = omega arith in
     all_come c.in_ok-p.p.world c.args.threads h keeps.stints (stinted_of c.in_ok-p.p.layout c.in_ok-p.p c.in_ok-p.p.world c.args.rounds c.args.threads threads values h size here keeps c.in_ok-threads.ensures.played)
 
@@ -75,11 +73,9 @@ returns-clause-first g c = λ h v reported last.
     let world = c.in_ok-p.ensures.package.2 in
     let threads = c.in_ok-threads.threads.items in
     let values = c.in_ok-closed.closed.values in
-    let whole = c.in_ok-closed.ensures.traced traced in
-    let kept = c.in_ok-closed.ensures.stints traced in
     let count = c.in_ok-p.ensures.count ∙ ap (λ l. l.threads) c.of-layout.ensures in
     let same = c.in_ok-threads.ensures.count in
-    let here = subst (λ (z : List Event). IsWhole c.in_ok-p.p.layout threads z) (same_some c.in_ok-closed.closed.trace whole.0 h whole.1 reported) whole.2 in
-    let keeps = subst (λ (z : List Event). KeepsStints (AreRounds c.in_ok-p.p.world) threads values z) (same_some c.in_ok-closed.closed.trace kept.0 h kept.1 reported) kept.2 in
+    let here = at_trace (λ (z : List Event). IsWhole c.in_ok-p.p.layout threads z) c.in_ok-closed.closed.trace h reported (c.in_ok-closed.ensures.traced traced) in
+    let keeps = at_trace (λ (z : List Event). KeepsStints (AreRounds c.in_ok-p.p.world) threads values z) c.in_ok-closed.closed.trace h reported (c.in_ok-closed.ensures.stints traced) in
     let size : length threads ≡ c.args.threads = omega arith in
     of_first c.in_ok-p.p.layout c.in_ok-p.p c.in_ok-p.p.world c.args.rounds c.args.threads threads values h v (ap (λ w. w.at) world ∙ c.places.ensures) (ap (λ w. w.parties) world) size here keeps c.in_ok-closed.ensures.values.1 c.in_ok-threads.ensures.played last
