@@ -13,4 +13,6 @@ pub mod shapes;
 pub mod tags;
 pub mod view;
 
-pub use view::{Band, DrawnRange, Freeing, Link, Reach, Shape, Strip, Turn, Way};
+pub use view::{
+    Band, BandRow, DrawnRange, Freeing, Link, Plan, Reach, RowKind, Shape, Strip, Turn, Way,
+};
