@@ -1,5 +1,6 @@
 pub mod Lives
 pub mod Overview
+pub mod Plan
 pub mod Bands
 pub mod Shown
 pub mod Longest
