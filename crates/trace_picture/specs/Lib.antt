@@ -6,6 +6,7 @@ pub mod Shown
 pub mod Longest
 pub mod Verdicts
 pub mod Picture
+pub mod Keeping
 pub mod Rings
 pub mod Drawn
 pub mod Seen

@@ -1,6 +1,6 @@
 -- The rows of a band: high for a thread that has one of its events, thin for one that only waits, holds something or is forked there, and none for
 -- the others.
-use Rattle.std.specs.Prelude.{ℕ, zero, suc, ◌+◌, ◌-◌, ◌*◌, ◌==◌, ◌||◌, ◌&&◌, nat_lt, Bool, true, false, is_some, min, max, if◌then◌else◌, List, [], ◌∷◌, ◌++◌, Some, None}
+use Rattle.std.specs.Prelude.{ℕ, zero, suc, ◌+◌, ◌-◌, ◌*◌, ◌==◌, ◌||◌, ◌&&◌, nat_lt, Bool, true, false, is_some, min, max, if◌then◌else◌, List, [], ◌∷◌, ◌++◌, replicate, Some, None}
 use Rattle.std.specs.declared.option.Option.{Option}
 use Rattle.larch_actions.specs.declared.event.Layout.{Layout}
 use Rattle.larch_actions.specs.declared.event.Version.{Version}
@@ -22,7 +22,7 @@ use Rattle.trace_shapes.specs.declared.view.RowKind.TheVariants.{Busy, Waiting, 
 use Rattle.trace_shapes.specs.declared.view.BandRow.{BandRow}
 use Rattle.trace_shapes.specs.declared.view.Plan.{Plan}
 use Rattle.trace_shapes.specs.declared.geometry.TheConstants.{BAND, AXIS, BAND_GAP, LANE, ROW_GAP, THIN_GAP, IDLE}
-use Rattle.trace_shapes.specs.Places.{lanes_of, busy_height, row_in}
+use Rattle.trace_shapes.specs.Places.{lanes_of, busy_height, no_row, row_in}
 use Rattle.trace_picture.specs.declared.plan.Page.{Page}
 
 -- one of these events is the thread's, and one of them forks it
@@ -125,8 +125,11 @@ abbrev pub idle_height : ℕ → ℕ
 idle_height idle = if nat_lt 0 idle then IDLE else 0
 
 -- no band so far
+unfoldable pub no_rows : List BandRow
+no_rows = replicate 256 no_row
+
 abbrev pub no_page : Page
-no_page = record { plan = record { rows = rows_below (λ t. record { y = 0; height = 0; kind = Absent }) 256; end = 0 }; top = 0; next = 0 }
+no_page = record { plan = record { rows = no_rows; end = 0 }; top = 0; next = 0 }
 
 -- a new band with this upper edge, of these events
 abbrev pub page_of : Layout → Tracked → List Event → ℕ → Page

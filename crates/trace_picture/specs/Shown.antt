@@ -81,7 +81,7 @@ shown_by o m arrows shown =
 
 -- Whether an event has arrows is the same in all bands: said of one without rows.
 abbrev pub bare_band : Layout → Band
-bare_band l = record { start = 0; threads = l.threads; plan = no_page.plan }
+bare_band l = record { start = 0; threads = l.threads; plan = record { rows = []; end = 0 } }
 
 abbrev pub has_arrows : Layout → Tracked → Origin → Effects → Bool
 has_arrows l k o m = has_text (arrows_at (bare_band l) k o m)
@@ -106,7 +106,7 @@ drawn_since l v p past = record { board = tracked_since past; shown = shown_sinc
 
 -- Whether an event has arrows is the same in all bands: said of one without rows.
 abbrev pub bare_band : Layout → Band
-bare_band l = record { start = 0; threads = l.threads; plan = no_page.plan }
+bare_band l = record { start = 0; threads = l.threads; plan = record { rows = []; end = 0 } }
 
 abbrev pub has_arrows : Layout → Tracked → Origin → Effects → Bool
 has_arrows l k o m = has_text (arrows_at (bare_band l) k o m)
