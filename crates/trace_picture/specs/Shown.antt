@@ -104,13 +104,6 @@ shown_since l v (e ∷ past) = shown_after l v (tracked_since past) (length past
 abbrev pub drawn_since : Layout → DrawnRange → Page → List Event → Drawn
 drawn_since l v p past = record { board = tracked_since past; shown = shown_since l v past; page = p }
 
--- Whether an event has arrows is the same in all bands: said of one without rows.
-abbrev pub bare_band : Layout → Band
-bare_band l = record { start = 0; threads = l.threads; plan = record { rows = []; end = 0 } }
-
-abbrev pub has_arrows : Layout → Tracked → Origin → Effects → Bool
-has_arrows l k o m = has_text (arrows_at (bare_band l) k o m)
-
 -- what was drawn after the event n, which failed
 abbrev pub shown_failed : Layout → DrawnRange → Tracked → Origin → (ℕ → Option Origin) → ℕ → Option Origin
 shown_failed l v k o shown = if in_view v o.place then shown_if (look_of Failed).letter true o (opened l v k o shown) else shown

@@ -12,7 +12,7 @@ ghost use Rattle.larch_actions.specs.declared.event.Version.{Version};
 ghost use Rattle.larch_actions.specs.Layout.{IsLawful};
 ghost use Rattle.trace_board.specs.Tracked.{IsNoted};
 ghost use Rattle.trace_shapes.specs.Places.{in_view};
-ghost use Rattle.trace_picture.specs.Keeping.{turned, band_steps, drawn_over, added_on, drawn_on, kept_on, event_text, event_drawn, event_kept};
+ghost use Rattle.trace_picture.specs.Keeping.{turned, band_steps, drawn_over, fills, added_on, drawn_on, kept_on, event_text, event_drawn, event_kept};
 ghost use Rattle.larch_actions.specs.Actions.{at_first};
 ghost use Rattle.lock_order.specs.Kept.{IsKept};
 ghost use Rattle.trace_picture.specs.Shown.{drawn_of};
@@ -98,6 +98,7 @@ fn draw_events<O: Sink>(
     requires large { 500000 ≤ length buf.old }
     requires few { start < 2 ^ 40 + 1 }
     requires some { count ≤ length kept.now }
+    requires short { count ≤ 50 }
     ensures ok { IfOk result (λ end. Flows (O.held out.old) (O.held out.new) (take at buf.old) (take end buf.new)
         (band_steps layout.now view.now start (drawn_of drawing.old) (take count kept.now))) }
     ensures within { IfOk result (λ end. end ≤ length buf.new) }
@@ -137,6 +138,7 @@ fn draw_kept<O: Sink>(
     requires large { 500000 ≤ length buf.old }
     requires few { start < 2 ^ 40 + 1 }
     requires some { count ≤ length kept.now }
+    requires short { count ≤ 50 }
     ensures ok { IfOk result (λ end. Flows (O.held out.old) (O.held out.new) (take at buf.old) (take end buf.new)
         (band_steps layout.now view.now start (turned layout.now kept.now (drawn_of drawing.old)) (take count kept.now))) }
     ensures within { IfOk result (λ end. end ≤ length buf.new) }
@@ -185,7 +187,8 @@ fn draw_if_full<O: Sink>(
     ensures within { IfOk result (λ end. end ≤ length buf.new) }
     ensures drawn { IfOk result (λ end. drawn_of drawing.new ≡ drawn_on layout.now view.now place (drawn_of drawing.old) kept.old) }
     ensures kept { IfOk result (λ end. kept.new ≡ kept_on view.now place kept.old) }
-    ensures low { (turned layout.now kept.old (drawn_of drawing.old)).page.next ≤ drawing.old.page.next + 2 ^ 16 }
+    ensures low { fills view.now place ≡ true →
+        (turned layout.now kept.old (drawn_of drawing.old)).page.next ≤ drawing.old.page.next + 2 ^ 16 }
     ensures err { OnErr result (AppendsPrefix (O.held out.old) (O.held out.new)
         (take at buf.old ++ added_on layout.now view.now place (drawn_of drawing.old) kept.old)) }
     ensures cause { HasCause (O.faults out.old) (O.faults out.new) result }
@@ -229,7 +232,7 @@ fn draw_on<O: Sink>(
     ensures within { IfOk result (λ end. end ≤ length buf.new) }
     ensures drawn { IfOk result (λ end. drawn_of drawing.new ≡ event_drawn layout.now view.now place (drawn_of drawing.old) kept.old e.now) }
     ensures kept { IfOk result (λ end. kept.new ≡ event_kept view.now place kept.old e.now) }
-    ensures low { in_view view.now place ≡ true →
+    ensures low { in_view view.now place ≡ true → fills view.now place ≡ true →
         (turned layout.now (kept.old ++ e.now ∷ []) (drawn_of drawing.old)).page.next ≤ drawing.old.page.next + 2 ^ 16 }
     ensures err { OnErr result (AppendsPrefix (O.held out.old) (O.held out.new)
         (take at buf.old ++ event_text layout.now view.now place (drawn_of drawing.old) kept.old e.now)) }
@@ -262,6 +265,7 @@ fn draw_rest<O: Sink>(
     requires large { 500000 ≤ length buf.old }
     requires few { start < 2 ^ 40 + 1 }
     requires some { count ≤ length kept.now }
+    requires short { count ≤ 50 }
     ensures ok { IfOk result (λ end. Flows (O.held out.old) (O.held out.new) (take at buf.old) (take end buf.new)
         (band_steps layout.now view.now start (turned layout.now kept.now (drawn_of drawing.old)) (take count kept.now))) }
     ensures room { IfOk result (λ end. end + 480000 ≤ length buf.new) }

@@ -9,6 +9,7 @@ ghost use Rattle.trace_board.specs.Tracked.{IsNoted};
 ghost use Rattle.trace_picture.specs.Plan.{acts, begins_it, forks_it};
 
 use larch_actions::{Action, Event, ThreadId, ThreadSet};
+use std::marker::Model;
 use trace_board::history::Change;
 use trace_board::marks::marks_of;
 

@@ -1,5 +1,5 @@
 //! The rows of a band.
-ghost use Rattle.std.specs.Prelude.{◌≡◌, ◌+◌, ◌<◌, ◌≤◌, ◌^◌, ◌&&◌, ◌||◌, nat_lt, is_some};
+ghost use Rattle.std.specs.Prelude.{◌≡◌, ◌+◌, ◌<◌, ◌≤◌, ◌^◌, max};
 ghost use Rattle.larch_actions.specs.Layout.{IsLawful};
 ghost use Rattle.larch_actions.specs.State.{count_below};
 ghost use Rattle.trace_board.specs.History.{entry_of};
@@ -43,6 +43,13 @@ fn lanes_to(board: &TraceState, t: u32, bar: Bar, since: Option<Origin>) -> u32
     }
 }
 
+// The larger of two numbers.
+fn larger(a: u32, b: u32) -> u32
+    ensures { result ≡ max a b }
+{
+    a.max(b)
+}
+
 // How many lanes of the thread's row the bars of the first mutexes need.
 fn most_held(board: &TraceState, t: u32, mutexes: u32) -> u32
     requires { mutexes ≤ 64 }
@@ -52,7 +59,7 @@ fn most_held(board: &TraceState, t: u32, mutexes: u32) -> u32
     let mut most = 0;
     for m in 0..mutexes {
         let lanes = lanes_to(board, t, Bar::Mutex(m), board.held.at(m));
-        most = most.max(lanes);
+        most = larger(most, lanes);
     }
     most
 }
@@ -66,7 +73,7 @@ fn most_taken(board: &TraceState, t: u32, semaphores: u32) -> u32
     let mut most = 0;
     for s in 0..semaphores {
         let lanes = lanes_to(board, t, Bar::Semaphore(s), board.taken.at(s));
-        most = most.max(lanes);
+        most = larger(most, lanes);
     }
     most
 }
@@ -79,7 +86,7 @@ fn depth_of(layout: &Layout, board: &TraceState, t: u32) -> u32
 {
     let held = most_held(board, t, layout.mutexes);
     let taken = most_taken(board, t, layout.semaphores);
-    held.max(taken)
+    larger(held, taken)
 }
 
 // How a thread is shown that has no event.
