@@ -37,7 +37,7 @@ over_none l v n d xs is = ap (drawn_over l v n d) is
 -- the event at a place is at the front of those from it on
 pub front_is : (all : List Event) (count i : ℕ) (e : Event) → e ≡ get_or all i e → i + 1 ≤ count → count ≤ length all → drop i (take count all) ≡ e ∷ drop (i + 1) (take count all)
 front_is all count i e is lt le =
-    drop_more (take count all) i e (omega (arith, length-take-le count all le, lt)) ∙ ap (λ x. x ∷ drop (i + 1) (take count all)) (get_or-take all count i e (omega (arith, lt)) ∙ sym is)
+    drop_more (take count all) i e (omega (arith, length-take-le count all le, lt)) ∙ ap (λ x. x ∷ drop (i + 1) (take count all)) (get_or-take count all i e (omega (arith, lt)) ∙ sym is)
 
 pub none_left : (all : List Event) (count i : ℕ) → count ≤ i → count ≤ length all → drop i (take count all) ≡ []
 none_left all count i past le = drop_all i (take count all) (omega (arith, length-take-le count all le, past))

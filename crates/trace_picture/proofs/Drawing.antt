@@ -1,7 +1,7 @@
 -- What holds between two events of a drawing.
 use Rattle.std.proofs.Common.{◌≡◌, ℕ, zero, suc, Bool, true, false, cond, ◌+◌, ◌-◌, ◌*◌, ◌%◌, ◌^◌, ◌<◌, ◌≤◌, ◌⊎◌, ⊎_elim, inl, inr, List, [], ◌∷◌, ◌++◌, length, length-append, take, refl, ap, sym, subst, ◌∙◌, append_assoc, append-nil, Some, None, IfSome, arith}
 use Rattle.std.specs.Prelude.{◌&&◌, ◌==◌, not, nat_lt, nat_le, if◌then◌else◌}
-use Rattle.std.proofs.lemmas.Bool.{cond-true, cond-false, eqb-true, true≢false}
+use Rattle.std.proofs.lemmas.Bool.{cond-true, cond-false, eqb-true, ne_eqb, true≢false}
 use Rattle.std.proofs.lemmas.Bool.Decides.{nat_tests}
 use Rattle.std.proofs.lemmas.List.{take-append-le, take_all, take_at}
 use Rattle.std.specs.Io.KnownBytes.{Appends}
@@ -34,6 +34,7 @@ use Rattle.trace_picture.specs.Plan.{no_page, page_of, room_of}
 use Rattle.trace_picture.specs.Keeping.{turned, band_steps, drawn_over, fills, added_on, drawn_on, kept_on, noted_on, event_text, event_drawn, event_kept}
 use Rattle.trace_picture.specs.Shown.{Drawn, nothing_drawn, has_arrows, opened, shown_by, shown_since, drawn_after, drawn_since}
 use Rattle.trace_picture.specs.Bands.{opening, event_shapes, closing_after, step_text}
+use Rattle.trace_picture.proofs.Banding.{steps_none, over_none}
 use Rattle.trace_picture.specs.Verdicts.{cut_words}
 use Rattle.trace_picture.specs.Picture.{head_text, page_at, steps_text, page_since, page_for, drawn_at, prefix_picture, ending, failed_ending, failed_picture, cut_picture}
 use Rattle.trace_picture.specs.Rings.{IsEnding}
@@ -78,13 +79,12 @@ not_zero_is zero e = absurd (true≢false e)
 not_zero_is (suc k) e = omega arith
 
 not_zero : (k : ℕ) → 0 < k → (k == 0) ≡ false
-not_zero zero h = absurd (omega arith)
-not_zero (suc k) h = refl
+not_zero k h = ne_eqb k 0 (λ e. absurd (omega (arith, h, e)))
 
 both_are : (a b : Bool) → a ≡ true → b ≡ true → (a && b) ≡ true
 both_are a b e f = ap (λ x. x && b) e ∙ f
 
-second_false : (a b : Bool) → b ≡ false → (a && b) ≡ false
+pub second_false : (a b : Bool) → b ≡ false → (a && b) ≡ false
 second_false true b e = e
 second_false false b e = refl
 
@@ -111,7 +111,7 @@ module _ (l : Layout) (v : DrawnRange) where
   -- the page of a band that ends before these others is the same without them
   same_page : (past : List Event) (x : Event) (xs ys : List Event) (p : Page) → is_open v (length past + length (x ∷ xs)) ≡ false
       → page_at l v past ((x ∷ xs) ++ ys) p ≡ page_at l v past ((x ∷ xs) ++ []) p
-  same_page past x xs ys p shut = at (in_view v n && column v n == 0) refl
+  same_page past x xs ys p shut = at (in_view v (length past) && column v (length past) == 0) refl
     where
       at : (b : Bool) → (in_view v (length past) && column v (length past) == 0) ≡ b
           → cond b (page_of l (tracked_since past) (take (room_of v (length past)) ((x ∷ xs) ++ ys)) p.next) p
@@ -301,7 +301,7 @@ drawing_starts budget left₀ before now p p' l m v reported kept k es rest room
       };
     }
 
-extended-append : (past xs ys : List Event) → extended past (xs ++ ys) ≡ extended (extended past xs) ys
+pub extended-append : (past xs ys : List Event) → extended past (xs ++ ys) ≡ extended (extended past xs) ys
 extended-append past [] ys = refl
 extended-append past (x ∷ xs) ys = extended-append (x ∷ past) xs ys
 
@@ -391,7 +391,7 @@ module _ (l : Layout) (v : DrawnRange) (after done es : List Event) (shut : is_o
       ∙ (λ i. drawn_over l v (begin i) (sym (turned_since l v own past (es ++ after)) i) es)
 
 -- the page stays within a band
-over_page : (l : Layout) (v : DrawnRange) (n : ℕ) (d : Drawn) (es : List Event) → (drawn_over l v n d es).page ≡ d.page
+pub over_page : (l : Layout) (v : DrawnRange) (n : ℕ) (d : Drawn) (es : List Event) → (drawn_over l v n d es).page ≡ d.page
 unfolding drawn_over
 over_page l v n d [] = refl
 over_page l v n d (e ∷ es) = over_page l v (n + 1) (drawn_after l v n e d) es
@@ -402,6 +402,42 @@ none_of (e ∷ es) h = absurd (h (omega arith))
 
 fits_room : (v : DrawnRange) (n m : ℕ) → in_view v n ≡ true → column v n ≡ 0 → m < 50 → n + m < v.end → m + 1 ≤ room_of v n
 fits_room v n m seen first few near = omega (arith, few, near)
+
+-- an event out of view adds nothing, and is noted
+module _ (l : Layout) (v : DrawnRange) (past : List Event) (own : Page) (e : Event) (hidden : in_view v (length past) ≡ false) where
+  hidden_page : page_for l v (extended past (e ∷ [])) [] (page_since l v [] own past (e ∷ [])) ≡ page_at l v past ((e ∷ []) ++ []) own
+  unfolding page_since
+  hidden_page = refl
+
+  hidden_text : steps_text l v [] own past (e ∷ []) ≡ []
+  unfolding steps_text step_text
+  hidden_text =
+      let p = page_at l v past ((e ∷ []) ++ []) own in
+      let m = length past in
+      let j = tracked_since past in
+      append-nil (step_text l v p j m e)
+      ∙ cond-false (in_view v m) (opening l v p j m ++ event_shapes v.ordered (band_of l v p.plan m) j m e ++ closing_after l v p.plan (tracked_after m e j) m) [] hidden
+
+  hidden_drawn : noted_on (length past) e (drawn_since l v own past) ≡ drawn_since l v own (e ∷ past)
+  hidden_drawn =
+      let m = length past in
+      let j = tracked_since past in
+      let was = shown_since l v past in
+      let o = origin_of m e in
+      let same : was ≡ shown_since l v (e ∷ past) = sym (cond-false (in_view v m) (shown_by o (marks e) (has_arrows l j o (marks e)) (opened l v j o was)) was hidden) in
+      λ i. record { board = tracked_since (e ∷ past); shown = same i; page = own }
+
+no_steps : (l : Layout) (v : DrawnRange) (after before : List Event) (p : Page) → steps_text l v after p before [] ≡ []
+unfolding steps_text
+no_steps l v after before p = refl
+
+same_since : (l : Layout) (v : DrawnRange) (after before : List Event) (p : Page) → page_since l v after p before [] ≡ p
+unfolding page_since
+same_since l v after before p = refl
+
+take_of_none : (m : ℕ) → take m (let xs : List Event = [] in xs) ≡ []
+take_of_none zero = refl
+take_of_none (suc m) = refl
 
 -- one more event
 module _ (l : Layout) (v : DrawnRange) (events : List Event) (reported₀ reported : Option (List ℕ)) (kept : List ℕ) (k : Drawn) (es : List Event) (a : AreDrawn l v events reported₀ reported kept k es)
@@ -468,7 +504,7 @@ module _ (l : Layout) (v : DrawnRange) (events : List Event) (reported₀ report
         let stays : page_at l v past ((e ∷ []) ++ []) own ≡ own =
         cond-false (in_view v (length past) && column v (length past) == 0) (page_of l (tracked_since past) (take (room_of v (length past)) ((e ∷ []) ++ [])) own.next) own (ap (λ b. b && column v (length past) == 0) hidden)
         in
-        let text = out_text past own e hidden in
+        let text = hidden_text l v past own e hidden in
         record {
           done = a.done ++ e ∷ [];
           split = ap (λ x. x ++ e ∷ []) (a.split ∙ ap (λ x. a.done ++ x) none ∙ append-nil a.done) ∙ sym (append-nil (a.done ++ e ∷ [])) ∙ ap (λ x. (a.done ++ e ∷ []) ++ x) (sym gone);
@@ -478,9 +514,9 @@ module _ (l : Layout) (v : DrawnRange) (events : List Event) (reported₀ report
           low = omega (arith, a.low, ap (λ (d : Drawn). d.page.next) kept_was, length-append a.done (e ∷ []));
           flows = flowed [] (cond-false (in_view v n) (added_on l v n k (es ++ e ∷ [])) [] out) (prefix_picture l v [] (a.done ++ e ∷ []))
               (prefix_cut l v [] a.done (e ∷ []) a.shut ∙ ap (λ t. prefix_picture l v [] a.done ++ t) text);
-          kept_is = kept_was ∙ (λ i. noted_on (sym long i) e (a.kept_is i)) ∙ hidden_drawn past own e hidden
+          kept_is = kept_was ∙ (λ i. noted_on (sym long i) e (a.kept_is i)) ∙ hidden_drawn l v past own e hidden
               ∙ ap (λ z. drawn_since l v z (e ∷ past)) (sym stays)
-              ∙ sym (drawn_cut l v [] a.done (e ∷ []) a.shut ∙ ap (λ z. drawn_since l v z (e ∷ past)) (one_page past own e));
+              ∙ sym (drawn_cut l v [] a.done (e ∷ []) a.shut ∙ ap (λ z. drawn_since l v z (e ∷ past)) (hidden_page l v past own e hidden));
         }
       where
         gone : es' ≡ []
@@ -506,28 +542,6 @@ module _ (l : Layout) (v : DrawnRange) (events : List Event) (reported₀ report
 
         past_shut : length (a.done ++ e ∷ []) ≡ n + 1 → is_open v (length (a.done ++ e ∷ [])) ≡ false
         past_shut size = ap (is_open v) size ∙ closed (nat_lt (n + 1) v.end) refl
-
-        one_page : (past : List Event) (own : Page) (e : Event) → page_for l v (extended past (e ∷ [])) [] (page_since l v [] own past (e ∷ [])) ≡ page_at l v past ((e ∷ []) ++ []) own
-        unfolding page_since
-        one_page past own e = refl
-
-        out_text : (past : List Event) (own : Page) (e : Event) → in_view v (length past) ≡ false → steps_text l v [] own past (e ∷ []) ≡ []
-        unfolding steps_text step_text
-        out_text past own e hidden =
-            let p = page_at l v past ((e ∷ []) ++ []) own in
-            let m = length past in
-            let j = tracked_since past in
-            append-nil (step_text l v p j m e)
-            ∙ cond-false (in_view v m) (opening l v p j m ++ event_shapes v.ordered (band_of l v p.plan m) j m e ++ closing_after l v p.plan (tracked_after m e j) m) [] hidden
-
-        hidden_drawn : (past : List Event) (own : Page) (e : Event) → in_view v (length past) ≡ false → noted_on (length past) e (drawn_since l v own past) ≡ drawn_since l v own (e ∷ past)
-        hidden_drawn past own e hidden =
-            let m = length past in
-            let j = tracked_since past in
-            let was = shown_since l v past in
-            let o = origin_of m e in
-            let same : was ≡ shown_since l v (e ∷ past) = sym (cond-false (in_view v m) (shown_by o (marks e) (has_arrows l j o (marks e)) (opened l v j o was)) was hidden) in
-            λ i. record { board = tracked_since (e ∷ past); shown = same i; page = own }
 
     -- in view, and its band goes on
     held_back : in_view v n ≡ true → is_open v (n + 1) ≡ true → Next
@@ -665,22 +679,6 @@ module _ (l : Layout) (v : DrawnRange) (events : List Event) (reported₀ report
     pub draws_failing : (e : Event) → more ≡ (if in_view v n then es ++ e ∷ [] else es) → Draws (e ∷ [])
     draws_failing e same = at (in_view v n) refl
       where
-        out_text : (after past : List Event) (own : Page) → steps_text l v after own past [] ≡ []
-        unfolding steps_text
-        out_text after past own = refl
-
-        out_page : (past : List Event) (own : Page) → page_since l v (e ∷ []) own past [] ≡ own
-        unfolding page_since
-        out_page past own = refl
-
-        none_steps : (m : ℕ) (d : Drawn) → band_steps l v m d [] ≡ []
-        unfolding band_steps
-        none_steps m d = refl
-
-        none_over : (m : ℕ) (d : Drawn) → drawn_over l v m d [] ≡ d
-        unfolding drawn_over
-        none_over m d = refl
-
         hidden : in_view v n ≡ false → more ≡ [] → Draws (e ∷ [])
         hidden out empty =
             let none = all_drawn out in
@@ -693,15 +691,11 @@ module _ (l : Layout) (v : DrawnRange) (events : List Event) (reported₀ report
             cond-false (in_view v (length past) && column v (length past) == 0) (page_of l (tracked_since past) (take (room_of v (length past)) (e ∷ [])) own.next) own (ap (λ b. b && column v (length past) == 0) unseen)
             in
             let front : take c more ≡ [] = ap (take c) empty ∙ take_of_none c in (
-              ap (prefix_picture l v (e ∷ [])) events_are ∙ prefix_cut l v (e ∷ []) a.done [] a.shut ∙ ap (λ t. prefix_picture l v [] a.done ++ t) (out_text (e ∷ []) past own)
-              ∙ sym (λ i. prefix_picture l v [] a.done ++ (ap (λ x. band_steps l v start (turned l more k) x) front ∙ none_steps start (turned l more k)) i),
-              ap (drawn_at l v (e ∷ [])) events_are ∙ drawn_cut l v (e ∷ []) a.done [] a.shut ∙ ap (λ z. drawn_since l v (page_at l v past (e ∷ []) z) past) (out_page past own) ∙ ap (λ z. drawn_since l v z past) stays
-              ∙ sym a.kept_is ∙ sym (ap (λ x. drawn_over l v start (turned l more k) x) front ∙ none_over start (turned l more k) ∙ ap (λ x. turned l x k) empty),
+              ap (prefix_picture l v (e ∷ [])) events_are ∙ prefix_cut l v (e ∷ []) a.done [] a.shut ∙ ap (λ t. prefix_picture l v [] a.done ++ t) (no_steps l v (e ∷ []) past own)
+              ∙ sym (λ i. prefix_picture l v [] a.done ++ steps_none l v start (turned l more k) (take c more) front i),
+              ap (drawn_at l v (e ∷ [])) events_are ∙ drawn_cut l v (e ∷ []) a.done [] a.shut ∙ ap (λ z. drawn_since l v (page_at l v past (e ∷ []) z) past) (same_since l v (e ∷ []) past own) ∙ ap (λ z. drawn_since l v z past) stays
+              ∙ sym a.kept_is ∙ sym (over_none l v start (turned l more k) (take c more) front ∙ ap (λ x. turned l x k) empty),
             )
-          where
-            take_of_none : (m : ℕ) → take m (let xs : List Event = [] in xs) ≡ []
-            take_of_none zero = refl
-            take_of_none (suc m) = refl
 
         at : (b : Bool) → in_view v n ≡ b → Draws (e ∷ [])
         at true seen =

@@ -93,6 +93,13 @@ fn add_idle_name(
     }
 }
 
+// One, if so.
+fn one_if(so: bool) -> u32
+    ensures { result ≡ (if so then 1 else 0) }
+{
+    if so { 1 } else { 0 }
+}
+
 // Adds the names of the first threads that live and have no row.
 fn add_idle_names(
     buf: &mut [u8],
@@ -112,7 +119,8 @@ fn add_idle_names(
     for t in 0..layout.threads {
         let idle = is_idle(layout.version, plan, board, t);
         last = add_idle_name(buf, last, idle, before, t);
-        before += u32::from(idle);
+        let more = one_if(idle);
+        before += more;
     }
     last
 }

@@ -96,7 +96,7 @@ fn draw_events<O: Sink>(
     requires lawful { IsLawful layout.now }
     requires within { at ≤ length buf.old }
     requires large { 500000 ≤ length buf.old }
-    requires few { start < 2 ^ 40 + 1 }
+    requires few { start < 2 ^ 40 + 2 }
     requires some { count ≤ length kept.now }
     requires short { count ≤ 50 }
     ensures ok { IfOk result (λ end. Flows (O.held out.old) (O.held out.new) (take at buf.old) (take end buf.new)
@@ -136,7 +136,7 @@ fn draw_kept<O: Sink>(
     requires low { drawing.old.page.next < 2 ^ 59 }
     requires within { at ≤ length buf.old }
     requires large { 500000 ≤ length buf.old }
-    requires few { start < 2 ^ 40 + 1 }
+    requires few { start < 2 ^ 40 + 2 }
     requires some { count ≤ length kept.now }
     requires short { count ≤ 50 }
     ensures ok { IfOk result (λ end. Flows (O.held out.old) (O.held out.new) (take at buf.old) (take end buf.new)
@@ -180,7 +180,7 @@ fn draw_if_full<O: Sink>(
     requires low { drawing.old.page.next < 2 ^ 59 }
     requires within { at ≤ length buf.old }
     requires large { 500000 ≤ length buf.old }
-    requires few { place < 2 ^ 40 }
+    requires few { place < 2 ^ 40 + 1 }
     requires some { length kept.old ≤ place + 1 }
     ensures ok { IfOk result (λ end. Flows (O.held out.old) (O.held out.new) (take at buf.old) (take end buf.new)
         (added_on layout.now view.now place (drawn_of drawing.old) kept.old)) }
@@ -224,7 +224,7 @@ fn draw_on<O: Sink>(
     requires low { drawing.old.page.next < 2 ^ 59 }
     requires within { at ≤ length buf.old }
     requires large { 500000 ≤ length buf.old }
-    requires few { place < 2 ^ 40 }
+    requires few { place < 2 ^ 40 + 1 }
     requires some { length kept.old ≤ place }
     requires free { length kept.old < 50 }
     ensures ok { IfOk result (λ end. Flows (O.held out.old) (O.held out.new) (take at buf.old) (take end buf.new)
@@ -263,7 +263,7 @@ fn draw_rest<O: Sink>(
     requires low { drawing.old.page.next < 2 ^ 59 }
     requires within { at ≤ length buf.old }
     requires large { 500000 ≤ length buf.old }
-    requires few { start < 2 ^ 40 + 1 }
+    requires few { start < 2 ^ 40 + 2 }
     requires some { count ≤ length kept.now }
     requires short { count ≤ 50 }
     ensures ok { IfOk result (λ end. Flows (O.held out.old) (O.held out.new) (take at buf.old) (take end buf.new)

@@ -10,9 +10,6 @@ use Rattle.trace_picture.specs.Bands.{idle_name}
 use Rattle.trace_picture.proofs.Planning.{count_more}
 use Rattle.trace_picture.proofs.bands.add_idle_names.Goals as goal
 
-as_cond : (b : Bool) → (if b then 1 else 0) ≡ cond b (let one : ℕ = 1 in one) 0
-as_cond b = refl
-
 pub loop-t-init : goal.loop-t-init
 loop-t-init c =
     let f : ℕ → List ℕ = idle_name c.args.layout.now.version c.args.plan.now (tracked_of c.args.board.now) in
@@ -28,7 +25,7 @@ loop-t-preserved c =
     let t = c.loop-t.t in
     let idle = c.is_idle-idle.ensures in
     let count = c.loop-t.invariant.count in
-    let one = count_more test t c.loop-t.before c.is_idle-idle.result c.from-before.result count idle (c.from-before.ensures ∙ as_cond c.is_idle-idle.result) in
+    let one = count_more test t c.loop-t.before c.is_idle-idle.result c.one_if-more.result count idle c.one_if-more.ensures in
     record {
       text = added_more old before _ (each_below f t) (f t) (each_below f (t + 1)) c.loop-t.invariant.text
           (c.add_idle_name-last.ensures.text ∙ (λ i. before ++ (if (idle i) && nat_lt (count i) IDLE_NAMES then with_number (codes " t") t else []))) (sym (each_more f t));
