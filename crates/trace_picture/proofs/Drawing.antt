@@ -280,6 +280,14 @@ pub nothing_sent : (h : Option (List ℕ)) → Appends h h []
 nothing_sent None = tt
 nothing_sent (Some xs) = sym (append-nil xs)
 
+pub none_open : (v : DrawnRange) → is_open v 0 ≡ false
+none_open v =
+    let none : (0 - v.first) % 50 ≡ 0 = omega arith in
+    second_false (nat_lt 0 v.end) (not ((0 - v.first) % 50 == 0)) (ap (λ c. not (c == 0)) none)
+
+zero_plus : (n : ℕ) → 0 + n ≡ n
+zero_plus n = omega arith
+
 unfoldable pub drawing_starts : (budget : ℕ) (left₀ : Option (List ℕ)) (before now : ℕ) (p p' : ReaderState) (l : Layout) (m : Moment) (v : DrawnRange) (reported : Option (List ℕ)) (kept : List ℕ) (k : Drawn) (es : List Event)
     → p.rest ≡ left₀ → p.room ≡ budget → p.lines ≡ 0 → TakesHead p p' l → before ≤ now → m.layout ≡ l → spec_of m ≡ at_first l.version → kept ≡ [] ++ head_text l → k ≡ nothing_drawn → es ≡ []
     → IsDrawing budget left₀ before p' now m 0 v reported reported kept k es
@@ -292,7 +300,7 @@ drawing_starts budget left₀ before now p p' l m v reported kept k es rest room
       drawn = record {
         done = [];
         split = sym empty;
-        shut = second_false (nat_lt 0 v.end) (not ((0 - v.first) % 50 == 0)) refl;
+        shut = none_open v;
         started = λ some. absurd (omega (arith, some, size));
         few_kept = omega (arith, size);
         low = let low : k.page.next ≡ 0 = ap (λ (d : Drawn). d.page.next) none in omega (arith, low);
@@ -310,14 +318,14 @@ prefix_cut : (l : Layout) (v : DrawnRange) (after done es : List Event) → is_o
     → prefix_picture l v after (done ++ es) ≡ prefix_picture l v [] done ++ steps_text l v after (page_since l v [] no_page [] done) (extended [] done) es
 unfolding prefix_picture
 prefix_cut l v after done es shut =
-    ap (λ t. head_text l ++ t) (steps_cut l v after no_page [] done es shut)
+    ap (λ t. head_text l ++ t) (steps_cut l v after no_page [] done es (ap (is_open v) (zero_plus (length done)) ∙ shut))
     ∙ sym (append_assoc (head_text l) (steps_text l v [] no_page [] done) (steps_text l v after (page_since l v [] no_page [] done) (extended [] done) es))
 
 -- and what was drawn then
 drawn_cut : (l : Layout) (v : DrawnRange) (after done es : List Event) → is_open v (length done) ≡ false
     → drawn_at l v after (done ++ es) ≡ drawn_since l v (page_for l v (extended (extended [] done) es) after (page_since l v after (page_since l v [] no_page [] done) (extended [] done) es)) (extended (extended [] done) es)
 drawn_cut l v after done es shut =
-    (λ i. drawn_since l v (page_for l v (extended-append [] done es i) after (page_cut l v after no_page [] done es shut i)) (extended-append [] done es i))
+    (λ i. drawn_since l v (page_for l v (extended-append [] done es i) after (page_cut l v after no_page [] done es (ap (is_open v) (zero_plus (length done)) ∙ shut) i)) (extended-append [] done es i))
 
 module _ (l : Layout) (v : DrawnRange) (after past : List Event) (p : Page) (shut : is_open v (length past) ≡ false) where
   first_column : in_view v (length past) ≡ true → column v (length past) ≡ 0
@@ -761,22 +769,18 @@ module _ (budget : ℕ) (left₀ : Option (List ℕ)) (before now : ℕ) (p : Re
 
       whole_flow : (after : List Event) → Draws l v d.under_way.events reported₀ reported kept k es here_drawn count (sym d.under_way.counted) more c start c_is start_is after
           → (told : Option (List ℕ)) → Flows reported told kept kept' steps → k' ≡ drawn_over l v start (turned l more k) (take c more)
-          → IsWhole budget left₀ before p now m count v reported₀ told kept' k' after
+          → Pending reported₀ told kept' (prefix_picture p.layout v after d.under_way.events) [] × (k' ≡ drawn_at p.layout v after d.under_way.events)
       whole_flow after w told f drawn_is =
           let q = here_drawn.flows in
           let all = prefix_picture l v after d.under_way.events in
           let flows : Pending reported₀ told kept' all [] = (q.0 ++ f.0, Appends-trans reported₀ reported told q.0 f.0 q.1 f.1,
           w.0 ∙ ap (λ x. x ++ steps) (q.2 ∙ append-nil (q.0 ++ kept)) ∙ append_assoc q.0 kept steps ∙ ap (λ x. q.0 ++ x) (sym f.2) ∙ sym (append_assoc q.0 f.0 kept') ∙ sym (append-nil ((q.0 ++ f.0) ++ kept'))) in
-          record {
-            under_way = d.under_way;
-            flows = subst (λ x. Pending reported₀ told kept' (prefix_picture x v after d.under_way.events) []) same_l flows;
-            kept_is = drawn_is ∙ sym w.1 ∙ ap (λ x. drawn_at x v after d.under_way.events) same_l;
-          }
+          (subst (λ x. Pending reported₀ told kept' (prefix_picture x v after d.under_way.events) []) same_l flows, drawn_is ∙ sym w.1 ∙ ap (λ x. drawn_at x v after d.under_way.events) same_l)
 
-      pub all_whole : more ≡ es → (told : Option (List ℕ)) → Flows reported told kept kept' steps → k' ≡ drawn_over l v start (turned l more k) (take c more) → IsWhole budget left₀ before p now m count v reported₀ told kept' k' []
+      pub all_whole : more ≡ es → (told : Option (List ℕ)) → Flows reported told kept kept' steps → k' ≡ drawn_over l v start (turned l more k) (take c more) → Pending reported₀ told kept' (prefix_picture p.layout v [] d.under_way.events) [] × (k' ≡ drawn_at p.layout v [] d.under_way.events)
       all_whole same = whole_flow [] (draws_all l v d.under_way.events reported₀ reported kept k es here_drawn count (sym d.under_way.counted) more c start c_is start_is same)
 
-      pub failing_whole : (e : Event) → more ≡ (if in_view v count then es ++ e ∷ [] else es) → (told : Option (List ℕ)) → Flows reported told kept kept' steps → k' ≡ drawn_over l v start (turned l more k) (take c more) → IsWhole budget left₀ before p now m count v reported₀ told kept' k' (e ∷ [])
+      pub failing_whole : (e : Event) → more ≡ (if in_view v count then es ++ e ∷ [] else es) → (told : Option (List ℕ)) → Flows reported told kept kept' steps → k' ≡ drawn_over l v start (turned l more k) (take c more) → Pending reported₀ told kept' (prefix_picture p.layout v (e ∷ []) d.under_way.events) [] × (k' ≡ drawn_at p.layout v (e ∷ []) d.under_way.events)
       failing_whole e same = whole_flow (e ∷ []) (draws_failing l v d.under_way.events reported₀ reported kept k es here_drawn count (sym d.under_way.counted) more c start c_is start_is e same)
 
 -- nothing was sent, and more is held back
