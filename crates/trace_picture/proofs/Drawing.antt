@@ -624,7 +624,7 @@ module _ (l : Layout) (v : DrawnRange) (events : List Event) (reported₀ report
 
   -- what the event adds is at the front of the rest of a picture
   module _ (e : Event) where
-    rest_of : List ℕ
+    abbrev rest_of : List ℕ
     rest_of = steps_text l v [] (page_since l v [] no_page [] a.done) (extended [] a.done) (es ++ e ∷ [])
 
     pub event_in : (tail : List ℕ) × (prefix_picture l v [] (events ++ e ∷ []) ≡ (prefix_picture l v [] a.done ++ event_text l v n k es e) ++ tail)
