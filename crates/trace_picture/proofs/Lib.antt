@@ -2,6 +2,7 @@ pub mod Banding
 pub mod Births
 pub mod Drawing
 pub mod Explained
+pub mod Paging
 pub mod Parts
 pub mod Planning
 pub mod Signals

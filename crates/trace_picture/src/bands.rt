@@ -677,7 +677,8 @@ pub fn add_failing(
     requires lawful { IsLawful layout.now }
     requires few { place < 2 ^ 41 }
     requires room { at + 400000 ≤ length buf.old }
-    ensures text { take result buf.new ≡ take at buf.old ++ failing_text layout.now view.now page.now (tracked_of board.now) place e.now why }
+    ensures text { take result buf.new ≡ take at buf.old
+        ++ failing_text layout.now view.now page.now (tracked_of board.now) place e.now why }
     ensures near { result ≤ at + 400000 }
 {
     if is_in_view(view, place) {

@@ -230,7 +230,8 @@ fn draw_on<O: Sink>(
     ensures ok { IfOk result (λ end. Flows (O.held out.old) (O.held out.new) (take at buf.old) (take end buf.new)
         (event_text layout.now view.now place (drawn_of drawing.old) kept.old e.now)) }
     ensures within { IfOk result (λ end. end ≤ length buf.new) }
-    ensures drawn { IfOk result (λ end. drawn_of drawing.new ≡ event_drawn layout.now view.now place (drawn_of drawing.old) kept.old e.now) }
+    ensures drawn { IfOk result (λ end. drawn_of drawing.new
+        ≡ event_drawn layout.now view.now place (drawn_of drawing.old) kept.old e.now) }
     ensures kept { IfOk result (λ end. kept.new ≡ event_kept view.now place kept.old e.now) }
     ensures low { in_view view.now place ≡ true → fills view.now place ≡ true →
         (turned layout.now (kept.old ++ e.now ∷ []) (drawn_of drawing.old)).page.next ≤ drawing.old.page.next + 2 ^ 16 }

@@ -11,7 +11,8 @@ use trace_board::board::TraceState;
 use trace_board::history::Change;
 use trace_core::add;
 use trace_shapes::geometry::{COLUMN, ROW_RIGHT};
-use trace_shapes::shapes::{add_row, add_row_name, event_x, kind_in, row_height, row_y};
+use trace_shapes::places::{event_x, kind_in, row_height, row_y};
+use trace_shapes::shapes::{add_row, add_row_name};
 use trace_shapes::tags::{add_place, add_with_number};
 use trace_shapes::view::Band;
 

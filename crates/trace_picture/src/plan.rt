@@ -15,7 +15,7 @@ use trace_board::board::TraceState;
 use trace_board::history::Origin;
 use trace_board::rows::Bar;
 use trace_shapes::geometry::{AXIS, BAND_GAP, IDLE, LANE, ROW_GAP, THIN_GAP};
-use trace_shapes::shapes::busy_height;
+use trace_shapes::places::busy_height;
 use trace_shapes::view::{BandRow, Plan, RowKind, lanes_of};
 
 /// The band under way: its rows, its upper edge, and that of the next.

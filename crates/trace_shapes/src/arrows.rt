@@ -8,7 +8,7 @@ use crate::geometry::{
     COLUMN, EARLIER, HEAD_ABOVE, HEAD_BELOW, HOOK, LEVEL, MARK_HEIGHT, MARK_MIDDLE, MIDDLE,
     THIN_HEAD_ABOVE, THIN_HEAD_BELOW,
 };
-use crate::shapes::{event_x, kind_in, mark_y, row_y};
+use crate::places::{event_x, kind_in, mark_y, row_y};
 use crate::tags::add_with_number;
 use crate::view::{Band, Freeing, Link, RowKind, Shape, Turn, Way, is_thin};
 use larch_actions::{ThreadId, ThreadSet};

@@ -9,6 +9,7 @@ pub mod arrows;
 pub mod geometry;
 pub mod legend;
 mod numbers;
+pub mod places;
 pub mod shapes;
 pub mod tags;
 pub mod view;

@@ -2,138 +2,23 @@
 ghost use Rattle.std.specs.Prelude.{◌≡◌, ◌+◌, ◌-◌, ◌*◌, ◌%◌, ◌<◌, ◌≤◌, ◌^◌, ◌++◌, ◌∷◌, [], length, take, codes};
 ghost use Rattle.trace_board.specs.Marks.{marks};
 ghost use Rattle.trace_shapes.specs.Looks.{look_of};
-ghost use Rattle.trace_shapes.specs.Places.{bar_from, bar_width, bar_x, column_x, event_x, lane_y, mark_y, kind_in, row_y, row_height, busy_height, lanes_top, wait_top, wait_line, name_line, wait_x, wait_end};
+ghost use Rattle.trace_shapes.specs.Places.{bar_from, bar_width, bar_x, event_x, lane_y, mark_y, kind_in, row_y, row_height, wait_top, wait_line, name_line, wait_x, wait_end};
 ghost use Rattle.trace_shapes.specs.Shapes.{with_number, line_of, place_text, box_text, clause_word, clause_name, strike_text, flag_place, flag_text, begins, mark_id, mark_text, failed_mark, failed_text, end_words, span_text, giver_text, given_text, bar_box, bar_name, bar_text, taken_text, wait_y, wait_name, wait_name_if, wait_tag, wait_part, in_text, in_if, let_go_x, out_text, out_if, parts_text, wait_text, name_tag, row_name, row_text, number_text, digits_of, number_left, object_text, object_if};
 
 use crate::geometry::{
-    BAR_GAP, COLUMN, DIGIT_LEFT, DIGITS_END, FLAG_GAP, FLAG_TURN, LANE, LANE_TOP, LEFT,
-    LETTER_LINE, MARK_TOP, MIDDLE, NAME_LEFT, NAME_LINE, NAMED_WAIT, ROW, ROW_GAP, THIN_LANE_TOP,
-    THIN_LINE, THIN_WAIT_LINE, THIN_WAIT_TOP, WAIT_LINE, WAIT_TOP,
+    BAR_GAP, COLUMN, DIGIT_LEFT, DIGITS_END, FLAG_GAP, FLAG_TURN, LEFT, LETTER_LINE, MIDDLE,
+    NAME_LEFT, NAME_LINE, NAMED_WAIT,
 };
 use crate::legend::{has_number, look_of};
+use crate::places::{
+    event_x, kind_in, lane_y, mark_y, name_line, row_height, row_y, wait_line, wait_top,
+};
 use crate::tags::{add_box, add_line, add_place, add_with_number};
 use crate::view::{Band, Reach, RowKind, Strip, is_thin};
 use larch_actions::{Broken, Event};
 use trace_board::history::{Change, Origin};
 use trace_board::marks::{Effects, Mark};
 use trace_core::add;
-
-/// The left edge of a column.
-pub fn x_of(column: u64) -> u64
-    requires { column < 2 ^ 42 }
-    ensures { result ≡ column_x column }
-{
-    LEFT + COLUMN * column
-}
-
-/// The left edge of an event in its band.
-pub fn event_x(band: &Band, place: u64) -> u64
-    requires { place < 2 ^ 42 }
-    ensures x { result ≡ event_x band.now place }
-    ensures small { result < 2 ^ 48 }
-{
-    x_of(place.saturating_sub(band.start))
-}
-
-/// How high the row of a thread with events is.
-pub fn busy_height(lanes: u8) -> u64
-    ensures height { result ≡ busy_height lanes }
-    ensures small { result < 2 ^ 12 }
-{
-    ROW + LANE * u64::from(lanes) - ROW_GAP
-}
-
-/// How the row of a thread is shown.
-pub fn kind_in(band: &Band, thread: u32) -> RowKind
-    ensures { result ≡ kind_in band.now thread }
-{
-    let row = band.plan.at(thread);
-    row.kind
-}
-
-/// The upper edge of the row of a thread.
-pub fn row_y(band: &Band, thread: u32) -> u64
-    ensures y { result ≡ row_y band.now thread }
-    ensures small { result < 2 ^ 16 }
-{
-    let row = band.plan.at(thread);
-    u64::from(row.y)
-}
-
-/// How high the row of a thread is.
-pub fn row_height(band: &Band, thread: u32) -> u64
-    ensures height { result ≡ row_height band.now thread }
-    ensures small { result < 2 ^ 16 }
-{
-    let row = band.plan.at(thread);
-    u64::from(row.height)
-}
-
-/// The upper edge of the marks of a thread.
-pub fn mark_y(band: &Band, thread: u32) -> u64
-    ensures y { result ≡ mark_y band.now thread }
-    ensures small { result < 2 ^ 17 }
-    ensures large { 5 ≤ result }
-{
-    row_y(band, thread) + MARK_TOP
-}
-
-// From the upper edge of a row to its first lane.
-fn lanes_top(kind: RowKind) -> u64
-    ensures top { result ≡ lanes_top kind }
-    ensures small { result < 100 }
-{
-    match kind {
-        RowKind::Busy => LANE_TOP,
-        RowKind::Waiting => THIN_LANE_TOP + LANE,
-        RowKind::Still => THIN_LANE_TOP,
-        RowKind::Absent => THIN_LANE_TOP,
-    }
-}
-
-// From the upper edge of a row to its wait.
-fn wait_top(kind: RowKind) -> u64
-    ensures top { result ≡ wait_top kind }
-    ensures small { result < 100 }
-{
-    if is_thin(kind) {
-        THIN_WAIT_TOP
-    } else {
-        WAIT_TOP
-    }
-}
-
-// From the upper edge of a wait to the line of its name.
-fn wait_line(kind: RowKind) -> u64
-    ensures line { result ≡ wait_line kind }
-    ensures small { result < 100 }
-{
-    if is_thin(kind) {
-        THIN_WAIT_LINE
-    } else {
-        WAIT_LINE
-    }
-}
-
-// From the upper edge of a row to the line of its thread's name.
-fn name_line(kind: RowKind) -> u64
-    ensures line { result ≡ name_line kind }
-    ensures small { result < 100 }
-{
-    if is_thin(kind) {
-        THIN_LINE
-    } else {
-        LETTER_LINE
-    }
-}
-
-// The upper edge of a lane of bars in the row of a thread.
-fn lane_y(band: &Band, thread: u32, lane: u32) -> u64
-    ensures y { result ≡ lane_y band.now thread lane }
-    ensures small { result < 2 ^ 46 }
-{
-    row_y(band, thread) + lanes_top(kind_in(band, thread)) + LANE * u64::from(lane)
-}
 
 /// The word of a clause.
 pub fn word_of(why: Broken) -> &'static [u8]
