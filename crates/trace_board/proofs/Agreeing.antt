@@ -15,7 +15,7 @@ use Rattle.trace_board.specs.declared.history.Origin.{Origin}
 use Rattle.trace_board.specs.declared.causes.Cause.{Cause}
 use Rattle.trace_board.specs.declared.causes.Cause.TheVariants.{Never, Awaited, By}
 use Rattle.trace_board.specs.Awaited.{is_awaited}
-use Rattle.trace_board.specs.Causes.{taken, opened, come, moved}
+use Rattle.trace_board.specs.Causes.{take_out, opened, come, moved}
 use Rattle.trace_board.specs.Marks.{marks_of}
 
 -- a thread with this cause stands in the condition c
@@ -54,7 +54,7 @@ at_cond : (b : Bool) (g h : ℕ → Bool) (x : ℕ) → (cond b g h) x ≡ cond 
 at_cond true g h x = refl
 at_cond false g h x = refl
 
-fits_taken : (c : ℕ) (stays : Bool) (o : Origin) (p : Pending) (x : Cause) → Fits p x → Fits p (taken c stays o x)
+fits_taken : (c : ℕ) (stays : Bool) (o : Origin) (p : Pending) (x : Cause) → Fits p x → Fits p (take_out c stays o x)
 fits_taken c stays o p Never h = h
 fits_taken c stays o p (By q) h = h
 fits_taken c stays o p (Awaited k) h = cond_both (eqb k c && not stays) (By o) (Awaited k) (Fits p) (λ e. came p h) (λ e. h)
@@ -109,7 +109,7 @@ twice_false false = refl
 nobody : (stays w : Bool) → (stays ≡ true → w ≡ true) → w ≡ false → stays ≡ false
 nobody stays w h e = false_from_ne_true stays (λ y. true≢false (sym (h y) ∙ e))
 
-freed_here : (c k d : ℕ) (stays : Bool) (o : Origin) (v : Bool) → k ≡ d → v ≡ eqb c k → cond (eqb c d) stays v ≡ stands_in c (taken d stays o (Awaited k))
+freed_here : (c k d : ℕ) (stays : Bool) (o : Origin) (v : Bool) → k ≡ d → v ≡ eqb c k → cond (eqb c d) stays v ≡ stands_in c (take_out d stays o (Awaited k))
 freed_here c k d true o v same e =
     ap (cond (eqb c d) true) (e ∙ ap (eqb c) same) ∙ twice_true (eqb c d) ∙ sym (ap (stands_in c) (cond-false (eqb k d && not true) (By o) (Awaited k) (and_right (eqb k d) (not true) refl)) ∙ ap (eqb c) same)
 freed_here c k d false o v same e =
@@ -119,14 +119,14 @@ freed_here c k d false o v same e =
     both true h = refl
     both false h = h
 
-freed_there : (c k d : ℕ) (stays : Bool) (o : Origin) (v w : Bool) → (k ≡ d → ⊥) → v ≡ eqb c k → w ≡ eqb d k → (stays ≡ true → w ≡ true) → cond (eqb c d) stays v ≡ stands_in c (taken d stays o (Awaited k))
+freed_there : (c k d : ℕ) (stays : Bool) (o : Origin) (v w : Bool) → (k ≡ d → ⊥) → v ≡ eqb c k → w ≡ eqb d k → (stays ≡ true → w ≡ true) → cond (eqb c d) stays v ≡ stands_in c (take_out d stays o (Awaited k))
 freed_there c k d stays o v w ne e f h =
     let none : eqb d k ≡ false = ne_eqb d k (λ i. ne (sym i)) in
     let gone : stays ≡ false = nobody stays w h (f ∙ none) in
-    let stand : stands_in c (taken d stays o (Awaited k)) ≡ eqb c k = ap (stands_in c) (cond-false (eqb k d && not stays) (By o) (Awaited k) (and_left (eqb k d) (not stays) (ne_eqb k d ne))) in
+    let stand : stands_in c (take_out d stays o (Awaited k)) ≡ eqb c k = ap (stands_in c) (cond-false (eqb k d && not stays) (By o) (Awaited k) (and_left (eqb k d) (not stays) (ne_eqb k d ne))) in
     cond_both (eqb c d) stays v (λ y. y ≡ eqb c k) (λ y. gone ∙ sym (ap (λ n. eqb n k) (eqb-true c d y) ∙ none)) (λ y. e) ∙ sym stand
 
-freed_in : (c d : ℕ) (stays : Bool) (o : Origin) (x : Cause) (v w : Bool) → v ≡ stands_in c x → w ≡ stands_in d x → (stays ≡ true → w ≡ true) → cond (eqb c d) stays v ≡ stands_in c (taken d stays o x)
+freed_in : (c d : ℕ) (stays : Bool) (o : Origin) (x : Cause) (v w : Bool) → v ≡ stands_in c x → w ≡ stands_in d x → (stays ≡ true → w ≡ true) → cond (eqb c d) stays v ≡ stands_in c (take_out d stays o x)
 freed_in c d stays o Never v w e f h = cond_both (eqb c d) stays v (λ y. y ≡ false) (λ i. nobody stays w h f) (λ i. e)
 freed_in c d stays o (By p) v w e f h = cond_both (eqb c d) stays v (λ y. y ≡ false) (λ i. nobody stays w h f) (λ i. e)
 freed_in c d stays o (Awaited k) v w e f h = dite (ℕ_discrete k d) (λ same. freed_here c k d stays o v same e) (λ ne. freed_there c k d stays o v w ne e f h)
@@ -173,7 +173,7 @@ module _ (t : ℕ) (o : Origin) (f : ℕ → Cause) (s : Spec) (fits : (x : ℕ)
       at_cond (eqb c d.0) (in_set left) (s.members c) x ∙ freed_in c d.0 (in_set left x) o (f x) (s.members c x) (s.members d.0 x) (h c x) (h d.0 x) (may_stay (s.members d.0) (in_set left) choice x)
   members_after (Broadcast d) order ready choice =
       at_cond (eqb c d.0) (λ i. false) (s.members c) x ∙ freed_in c d.0 false o (f x) (s.members c x) (s.members d.0 x) (h c x) (h d.0 x) (λ e. absurd (true≢false (sym e)))
-      ∙ ap (λ b. stands_in c (taken d.0 b o (f x))) (sym (in_set-none x))
+      ∙ ap (λ b. stands_in c (take_out d.0 b o (f x))) (sym (in_set-none x))
   members_after (P n) order ready choice = h c x
   members_after (V n) order ready choice = h c x
   members_after (Alert who) order ready choice = h c x

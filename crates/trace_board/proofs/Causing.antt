@@ -16,7 +16,7 @@ use Rattle.trace_board.specs.declared.causes.Cause.{Cause}
 use Rattle.trace_board.specs.declared.causes.Cause.TheVariants.{Never, Awaited, By}
 use Rattle.trace_board.specs.History.{origin_of}
 use Rattle.trace_board.specs.Awaited.{is_awaited}
-use Rattle.trace_board.specs.Causes.{taken, opened, come, moved}
+use Rattle.trace_board.specs.Causes.{take_out, opened, come, moved}
 use Rattle.trace_board.specs.Marks.{marks_of}
 use Rattle.trace_board.specs.Tracked.{Tracked, nothing_tracked, tracked_after, tracked_since, extended, came, let_on_by, has_run}
 use Rattle.trace_board.specs.Laws.{awaited_by, IsMadeBy, ArrowsAreCauses, RowsAreLives, ForksAreBirths}
@@ -47,7 +47,7 @@ by_same : (o p : Origin) → By o ≡ By p → p ≡ o
 by_same o p e = cc
 
 -- where each cause that came is from: it had come, or it is by this event and was awaited
-taken_from : (c : ℕ) (stays : Bool) (o : Origin) (x : Cause) (p : Origin) → taken c stays o x ≡ By p → (x ≡ By p) ⊎ ((p ≡ o) × (is_awaited x ≡ true))
+taken_from : (c : ℕ) (stays : Bool) (o : Origin) (x : Cause) (p : Origin) → take_out c stays o x ≡ By p → (x ≡ By p) ⊎ ((p ≡ o) × (is_awaited x ≡ true))
 taken_from c stays o Never p h = inl h
 taken_from c stays o (By q) p h = inl h
 taken_from c stays o (Awaited k) p h = at (eqb k c && not stays) h

@@ -6,7 +6,7 @@ use Rattle.trace_board.specs.declared.history.Origin.{Origin}
 use Rattle.trace_board.specs.declared.causes.Cause.{Cause}
 use Rattle.trace_board.specs.declared.causes.Cause.TheVariants.{Never, Awaited, By}
 use Rattle.trace_board.specs.Awaited.{is_awaited}
-use Rattle.trace_board.specs.Causes.{taken}
+use Rattle.trace_board.specs.Causes.{take_out}
 
 -- each of the causes below n is changed by h, and the others are as they were
 pub record IsPartly (h : ℕ → Cause → Cause) (f : ℕ → Cause) (n : ℕ) (g : ℕ → Cause) : Type 0 where
@@ -20,16 +20,16 @@ pub put_there : (g : ℕ → Cause) (t k : ℕ) (x : Cause) → (k ≡ t → ⊥
 put_there g t k x ne = cond-false (eqb k t) x (g k) (ne_eqb k t ne)
 
 -- who isn't awaited isn't taken out
-pub stays_so : (c : ℕ) (stays : Bool) (o : Origin) (x : Cause) → is_awaited x ≡ false → taken c stays o x ≡ x
+pub stays_so : (c : ℕ) (stays : Bool) (o : Origin) (x : Cause) → is_awaited x ≡ false → take_out c stays o x ≡ x
 stays_so c stays o Never e = refl
 stays_so c stays o (Awaited k) e = absurd (true≢false e)
 stays_so c stays o (By p) e = refl
 
 -- one who stands in the condition, and isn't left there, was taken out
-pub freed_by : (c k : ℕ) (stays : Bool) (o : Origin) (was : Cause) → was ≡ Awaited k → k ≡ c → stays ≡ false → By o ≡ taken c stays o was
+pub freed_by : (c k : ℕ) (stays : Bool) (o : Origin) (was : Cause) → was ≡ Awaited k → k ≡ c → stays ≡ false → By o ≡ take_out c stays o was
 freed_by c k stays o was e same goes =
     let both : (eqb k c && not stays) ≡ true = rw (eq-eqb k c same, goes) refl in
-    sym (ap (taken c stays o) e ∙ cond-true (eqb k c && not stays) (By o) (Awaited k) both)
+    sym (ap (take_out c stays o) e ∙ cond-true (eqb k c && not stays) (By o) (Awaited k) both)
 
 module _ (h : ℕ → Cause → Cause) (f : ℕ → Cause) where
   pub partly_first : IsPartly h f 0 f

@@ -12,10 +12,10 @@ use Rattle.trace_board.specs.declared.causes.CauseChange.TheVariants.{Awaits, En
 use Rattle.trace_board.specs.declared.causes.Causes.{Causes}
 
 -- what a Signal or a Broadcast of c, which leaves the thread there or not, makes of it: who stood in c and isn't left was taken out by this event
-abbrev pub taken : ℕ → Bool → Origin → Cause → Cause
-taken c stays o Never = Never
-taken c stays o (Awaited k) = if k == c && not stays then By o else Awaited k
-taken c stays o (By p) = By p
+abbrev pub take_out : ℕ → Bool → Origin → Cause → Cause
+take_out c stays o Never = Never
+take_out c stays o (Awaited k) = if k == c && not stays then By o else Awaited k
+take_out c stays o (By p) = By p
 
 -- a V makes a semaphore available that wasn't
 abbrev pub opened : Origin → Cause → Cause
@@ -42,7 +42,7 @@ IsSmall Stays = Unit {0}
 abbrev pub moved : CauseChange → Origin → (ℕ → Cause) → ℕ → Cause
 moved (Awaits k c) o f = put f k (Awaited c)
 moved (Ends k) o f = put f k Never
-moved (Frees c left) o f = λ t. taken c (in_set left t) o (f t)
+moved (Frees c left) o f = λ t. take_out c (in_set left t) o (f t)
 moved (Opens k) o f = put f k (opened o (f k))
 moved (Comes k) o f = put f k (come o (f k))
 moved Stays o f = f

@@ -73,7 +73,7 @@ pub struct Causes {
 }
 
 impl Causes {
-    ghost use Rattle.trace_board.specs.Causes.{taken, moved, cause_of, IsSmall};
+    ghost use Rattle.trace_board.specs.Causes.{take_out, moved, cause_of, IsSmall};
 
     /// Nothing is awaited, and nothing came.
     pub fn new() -> Causes
@@ -106,7 +106,7 @@ impl Causes {
     #[inline(always)]
     fn free_one(&mut self, t: u32, cond: u32, left: &ThreadSet, by: Origin)
         requires { t < most_threads }
-        ensures { cause_of self.new ≡ put (cause_of self.old) t (taken cond (in_set left.now t) by (cause_of self.old t)) }
+        ensures { cause_of self.new ≡ put (cause_of self.old) t (take_out cond (in_set left.now t) by (cause_of self.old t)) }
     {
         match self.at(t) {
             Cause::Awaited(k) => {
@@ -125,7 +125,7 @@ impl Causes {
     // What the event makes of all who stand in the condition, but for those left.
     #[inline(never)]
     fn free(&mut self, cond: u32, left: &ThreadSet, by: Origin)
-        ensures { cause_of self.new ≡ (λ t. taken cond (in_set left.now t) by (cause_of self.old t)) }
+        ensures { cause_of self.new ≡ (λ t. take_out cond (in_set left.now t) by (cause_of self.old t)) }
     {
         for t in 0..self.limit {
             self.free_one(t, cond, left, by);

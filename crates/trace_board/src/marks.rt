@@ -123,7 +123,7 @@ fn raises(mark: Mark, t: ThreadId, mutex: MutexId, cond: CondId) -> Effects
 
 // A semaphore is taken.
 #[inline(always)]
-fn taken(mark: Mark, sem: SemId) -> Effects
+fn taking(mark: Mark, sem: SemId) -> Effects
     ensures { result ≡ semaphore_taken mark sem.0 }
 {
     Effects {
@@ -173,7 +173,7 @@ pub fn marks_of(t: ThreadId, action: &Action) -> Effects
             stand: CauseChange::Frees(cond.0, ThreadSet::empty()),
             ..plain(Mark::Broadcast, cond.0)
         },
-        Action::P { sem } => taken(Mark::P, sem),
+        Action::P { sem } => taking(Mark::P, sem),
         Action::V { sem } => Effects {
             semaphore: Change::Ends(sem.0),
             avail: CauseChange::Opens(sem.0),
@@ -184,7 +184,7 @@ pub fn marks_of(t: ThreadId, action: &Action) -> Effects
             ..plain(Mark::Alert, who.0)
         },
         Action::TestAlert { yes: _ } => heard(Mark::TestAlert, t, t.0),
-        Action::AlertPReturn { sem } => taken(Mark::AlertPReturn, sem),
+        Action::AlertPReturn { sem } => taking(Mark::AlertPReturn, sem),
         Action::AlertPRaise { sem } => heard(Mark::AlertPRaise, t, sem.0),
         Action::Fork { who } => Effects {
             life: Change::Begins(who.0),

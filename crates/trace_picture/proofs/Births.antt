@@ -52,7 +52,7 @@ at_once test s [] h = h
 at_once test s (e ∷ es) h = h.0
 
 pub births_are_drawn : BirthsAreDrawn
-births_are_drawn = λ l v es s r e may o by seen.
+births_are_drawn = λ l v p es s r e may o by seen.
     let born = forks_are_births l.version es s r e may o by in
     let m = born.0 in
     let x = e.thread.0 in
@@ -63,4 +63,4 @@ births_are_drawn = λ l v es s r e may o by seen.
     let same : fork.0.0 ≡ x = fork.2 in
     let here : in_view v n ≡ true = ap (λ (p : Origin). in_view v p.place) back ∙ seen in
     let k = tracked_since (extended [] m.before) in
-    (m, born.1, subst (HasText (step_text l v k n m.cause)) (λ i. fork_text (band_of l v (back i).place) (back i) (same i)) (forks_are_drawn l v k n m.cause fork.0 fork.1 here))
+    (m, born.1, subst (HasText (step_text l v p k n m.cause)) (λ i. fork_text (band_of l v p.plan (back i).place) (back i) (same i)) (forks_are_drawn l v p k n m.cause fork.0 fork.1 here))

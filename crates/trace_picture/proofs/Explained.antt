@@ -19,9 +19,8 @@ use Rattle.trace_shapes.specs.declared.legend.TheConstants.{ARROWS, TAKINGS, HOL
 use Rattle.trace_shapes.specs.Looks.{look_of}
 use Rattle.trace_shapes.specs.Shapes.{begins}
 use Rattle.trace_shapes.specs.Legend.{name_of, entry_at, entry_text, entry_if, is_shown, shown_before, legend_text}
-use Rattle.trace_shapes.specs.Places.{in_view, column, band_of}
-use Rattle.trace_picture.specs.Bands.{arrows_at}
-use Rattle.trace_picture.specs.Shown.{shown_if, going_on, opened, lets_go_on, shown_by, has_text, shown_since}
+use Rattle.trace_shapes.specs.Places.{in_view, column}
+use Rattle.trace_picture.specs.Shown.{shown_if, going_on, opened, lets_go_on, shown_by, has_arrows, shown_since}
 use Rattle.trace_picture.specs.Seen.{HasText, MarksAreExplained, DrawnAreExplained}
 use Rattle.trace_picture.proofs.Parts.{each_has}
 use Rattle.trace_picture.proofs.Seeing.{index_of}
@@ -73,7 +72,7 @@ module _ (l : Layout) (v : DrawnRange) where
       let o = origin_of (length past) e in
       let before = shown_since l v past in
       let f = opened l v k o before in
-      let now = shown_by o (marks e) (has_text (arrows_at (band_of l v (length past)) k o (marks e))) f in
+      let now = shown_by o (marks e) (has_arrows l k o (marks e)) f in
       both_ways (in_view v (length past)) now before x (stays_by o (marks e) _ f x (stays_if _ true o f x (stays_opened l v k o before x h))) h
 
   stays : (es past : List Event) (x : ℕ) → is_some (shown_since l v past x) ≡ true → is_some (shown_since l v (extended past es) x) ≡ true
@@ -88,7 +87,7 @@ module _ (l : Layout) (v : DrawnRange) where
       let k = tracked_since past in
       let f = opened l v k o (shown_since l v past) in
       let x = (look_of (marks e).mark).letter in
-      let arrows = has_text (arrows_at (band_of l v n) k o (marks e)) in
+      let arrows = has_arrows l k o (marks e) in
       let own : is_some (shown_if x true o f x) ≡ true = ap (λ b. is_some (cond b (Some o) (f x))) (eq-eqb x x refl) in
       ap (λ (g : ℕ → Option Origin). is_some (g x)) (cond-true (in_view v n) (shown_by o (marks e) arrows f) (shown_since l v past) seen) ∙ stays_by o (marks e) arrows f x own
 
@@ -248,7 +247,7 @@ module _ (l : Layout) (v : DrawnRange) (m : Mark) where
       let o = origin_of (length past) e in
       let before = shown_since l v past in
       let f = opened l v k o before in
-      let arrows = has_text (arrows_at (band_of l v (length past)) k o (marks e)) in
+      let arrows = has_arrows l k o (marks e) in
       let now = shown_by o (marks e) arrows f in
       ⊎_elim (λ (a : (in_view v (length past) ≡ true) × (is_some (now (look_of m).letter) ≡ true)).
       ⊎_elim (λ (is : (marks e).mark ≡ m). ([], past, e, refl, a.0, is))

@@ -1,7 +1,10 @@
+pub mod Banding
 pub mod Births
 pub mod Drawing
 pub mod Explained
+pub mod Paging
 pub mod Parts
+pub mod Planning
 pub mod Signals
 pub mod Lines
 pub mod Ringing

@@ -8,7 +8,6 @@ use Rattle.trace_board.specs.Tracked.{tracked_since, longest_in}
 use Rattle.trace_shapes.specs.Legend.{legend_text}
 use Rattle.trace_picture.specs.Shown.{Drawn}
 use Rattle.trace_shapes.specs.declared.view.DrawnRange.{DrawnRange}
-use Rattle.trace_shapes.specs.Places.{height_of}
 use Rattle.trace_shapes.specs.declared.geometry.TheConstants.{NAME_LINE}
 use Rattle.trace_shapes.specs.Shapes.{with_number, place_text}
 use Rattle.trace_picture.specs.Longest.{hold_end, hold_text, reported_hold, line_x, line_y, sample_text, hold_line, holds_text}
@@ -19,7 +18,7 @@ use Rattle.trace_picture.proofs.Parts.{has_in, each_has}
 -- a line of a picture's end
 module _ (l : Layout) (v : DrawnRange) (d : Drawn) (n high : ℕ) (words : List ℕ) (m : ℕ) (lt : m < l.mutexes) where
   abbrev low : ℕ
-  low = height_of l v n
+  low = d.page.next
 
   abbrev legend : List ℕ
   legend = codes "</g>\n" ++ legend_text d.shown ++ codes "</g>\n"
@@ -28,8 +27,8 @@ module _ (l : Layout) (v : DrawnRange) (d : Drawn) (n high : ℕ) (words : List 
   unfolding end_text
   lines_there = record {
     before = [];
-    after = legend ++ words ++ last_tags l v d.shown n high;
-    text = in_front (holds_text l.mutexes d.board n low) legend words (last_tags l v d.shown n high);
+    after = legend ++ words ++ last_tags l v d.shown n low high;
+    text = in_front (holds_text l.mutexes d.board n low) legend words (last_tags l v d.shown n low high);
   }
     where
       in_front : (a b c d : List ℕ) → a ++ b ++ c ++ d ≡ [] ++ a ++ (b ++ c ++ d)
@@ -58,5 +57,5 @@ module _ (l : Layout) (v : DrawnRange) (d : Drawn) (n high : ℕ) (words : List 
 
 pub holds_are_reported : HoldsAreReported
 unfolding hold_text hold_end
-holds_are_reported = λ l v past shown n high words m lt.
-    reported l v (record { board = tracked_since past; shown = shown }) n high words m lt (longest_in (tracked_since past) n m) refl
+holds_are_reported = λ l v p past shown n high words m lt.
+    reported l v (record { board = tracked_since past; shown = shown; page = p }) n high words m lt (longest_in (tracked_since past) n m) refl

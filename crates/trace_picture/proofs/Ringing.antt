@@ -18,44 +18,39 @@ use Rattle.lock_order.specs.declared.answer.Edge.{Edge}
 use Rattle.lock_order.specs.declared.lock_graph.LockGraph.{LockGraph}
 use Rattle.lock_order.specs.Kept.{IsKept}
 use Rattle.trace_shapes.specs.declared.view.DrawnRange.{DrawnRange}
-use Rattle.trace_picture.specs.Shown.{Drawn, nothing_drawn, drawn_after}
+use Rattle.trace_shapes.specs.Places.{in_view}
+use Rattle.trace_picture.specs.Keeping.{turned, fills, event_text, event_drawn, event_kept}
+use Rattle.trace_picture.specs.Shown.{Drawn, nothing_drawn}
 use Rattle.trace_picture.specs.Picture.{head_text}
-use Rattle.trace_picture.specs.Bands.{step_text}
 use Rattle.trace_shapes.specs.Shapes.{with_number}
 use Rattle.trace_picture.specs.Rings.{nesting_text}
 use Rattle.trace_shapes.proofs.Added.{added_six}
-use Rattle.trace_picture.proofs.Drawing.{IsDrawing, drawing_starts, drawing_room, drawing_steps}
+use Rattle.trace_picture.proofs.Drawing.{IsDrawing, drawing_starts, drawing_steps}
 
 -- so far these events were read and drawn, and where that is wanted it is kept what they nest
-pub record IsRinging (budget : ℕ) (left₀ : Option (List ℕ)) (before : ℕ) (st : ReaderState) (now : ℕ) (m : Moment) (count : ℕ) (v : DrawnRange) (reported₀ reported : Option (List ℕ)) (kept : List ℕ) (k : Drawn) (on : Bool) (n : LockGraph) : Type 0 where
-  pub drawing : IsDrawing budget left₀ before st now m count v reported₀ reported kept k
+pub record IsRinging (budget : ℕ) (left₀ : Option (List ℕ)) (before : ℕ) (st : ReaderState) (now : ℕ) (m : Moment) (count : ℕ) (v : DrawnRange) (reported₀ reported : Option (List ℕ)) (kept : List ℕ) (k : Drawn) (xs : List Event) (on : Bool) (n : LockGraph) : Type 0 where
+  pub drawing : IsDrawing budget left₀ before st now m count v reported₀ reported kept k xs
   pub noted : on ≡ true → IsKept drawing.under_way.events (spec_of m) n
 
-pub ringing_starts : (budget : ℕ) (left₀ : Option (List ℕ)) (before now : ℕ) (p p' : ReaderState) (l : Layout) (m : Moment) (v : DrawnRange) (reported : Option (List ℕ)) (kept : List ℕ) (k : Drawn) (on : Bool) (n : LockGraph)
-    → p.rest ≡ left₀ → p.room ≡ budget → p.lines ≡ 0 → TakesHead p p' l → before ≤ now → m.layout ≡ l → spec_of m ≡ at_first l.version → kept ≡ [] ++ head_text l → k ≡ nothing_drawn → ((version : Version) → IsKept [] (at_first version) n)
-    → IsRinging budget left₀ before p' now m 0 v reported reported kept k on n
+pub ringing_starts : (budget : ℕ) (left₀ : Option (List ℕ)) (before now : ℕ) (p p' : ReaderState) (l : Layout) (m : Moment) (v : DrawnRange) (reported : Option (List ℕ)) (kept : List ℕ) (k : Drawn) (xs : List Event) (on : Bool) (n : LockGraph)
+    → p.rest ≡ left₀ → p.room ≡ budget → p.lines ≡ 0 → TakesHead p p' l → before ≤ now → m.layout ≡ l → spec_of m ≡ at_first l.version → kept ≡ [] ++ head_text l → k ≡ nothing_drawn → xs ≡ [] → ((version : Version) → IsKept [] (at_first version) n)
+    → IsRinging budget left₀ before p' now m 0 v reported reported kept k xs on n
 unfolding starts_on drawing_starts
-ringing_starts budget left₀ before now p p' l m v reported kept k on n rest room lines t le laid first text none empty = record {
-  drawing = drawing_starts budget left₀ before now p p' l m v reported kept k rest room lines t le laid first text none;
-  noted = λ wanted. subst (λ (z : Spec). IsKept [] z n) (sym first) (empty l.version);
+ringing_starts budget left₀ before now p p' l m v reported kept k xs on n rest room lines t le laid first text none empty no_cycle = record {
+  drawing = drawing_starts budget left₀ before now p p' l m v reported kept k xs rest room lines t le laid first text none empty;
+  noted = λ wanted. subst (λ (z : Spec). IsKept [] z n) (sym first) (no_cycle l.version);
 }
 
-module _ (budget : ℕ) (left₀ : Option (List ℕ)) (before now : ℕ) (p : ReaderState) (m : Moment) (count : ℕ) (v : DrawnRange) (reported₀ reported : Option (List ℕ)) (kept : List ℕ) (k : Drawn) (on : Bool) (n : LockGraph)
-    (r : IsRinging budget left₀ before p now m count v reported₀ reported kept k on n) where
-  pub ringing_room : (reported' : Option (List ℕ)) (kept' : List ℕ) → Flows reported reported' kept kept' [] → IsRinging budget left₀ before p now m count v reported₀ reported' kept' k on n
-  unfolding drawing_room
-  ringing_room reported' kept' f = record {
-    drawing = drawing_room budget left₀ before now p m count v reported₀ reported kept k r.drawing reported' kept' f;
-    noted = r.noted;
-  }
-
-  pub ringing_steps : (now' : ℕ) (p' : ReaderState) (m' : Moment) (e : Event) (kept' : List ℕ) (k' : Drawn) (n' : LockGraph) (l : Layout) → l ≡ p.layout → budget < 2 ^ 64 - 1 → TakesEvent p p' e → Acts (spec_of m) e (spec_of m') → m'.layout ≡ m.layout → now ≤ now'
-      → kept' ≡ kept ++ step_text l v k.board count e → k' ≡ drawn_after l v count e k
+module _ (budget : ℕ) (left₀ : Option (List ℕ)) (before now : ℕ) (p : ReaderState) (m : Moment) (count : ℕ) (v : DrawnRange) (reported₀ reported : Option (List ℕ)) (kept : List ℕ) (k : Drawn) (xs : List Event) (on : Bool) (n : LockGraph)
+    (r : IsRinging budget left₀ before p now m count v reported₀ reported kept k xs on n) where
+  pub ringing_steps : (now' : ℕ) (p' : ReaderState) (m' : Moment) (e : Event) (reported' : Option (List ℕ)) (kept' : List ℕ) (k' : Drawn) (xs' : List Event) (n' : LockGraph) (l : Layout) → l ≡ p.layout → budget < 2 ^ 64 - 1 → TakesEvent p p' e → Acts (spec_of m) e (spec_of m') → m'.layout ≡ m.layout → now ≤ now'
+      → Flows reported reported' kept kept' (event_text l v count k xs e) → k' ≡ event_drawn l v count k xs e → xs' ≡ event_kept v count xs e
+      → (in_view v count ≡ true → fills v count ≡ true → (turned l (xs ++ e ∷ []) k).page.next ≤ k.page.next + 65536)
       → (on ≡ true → (es : List Event) (s s' : Spec) → count ≡ length es → Acts s e s' → IsKept es s n → IsKept (es ++ e ∷ []) s' n')
-      → IsRinging budget left₀ before p' now' m' (count + 1) v reported₀ reported kept' k' on n'
+      → IsRinging budget left₀ before p' now' m' (count + 1) v reported₀ reported' kept' k' xs' on n'
   unfolding step_on drawing_steps
-  ringing_steps now' p' m' e kept' k' n' l same_l fits t a same le text turns notes = record {
-    drawing = drawing_steps budget left₀ before now p m count v reported₀ reported kept k r.drawing now' p' m' e kept' k' l same_l fits t a same le text turns;
+  ringing_steps now' p' m' e reported' kept' k' xs' n' l same_l fits t a same le text turns keeps near notes = record {
+    drawing = drawing_steps budget left₀ before now p m count v reported₀ reported kept k xs r.drawing now' p' m' e reported' kept' k' xs' l same_l fits t a same le text turns keeps near;
     noted = λ wanted. notes wanted r.drawing.under_way.events (spec_of m) (spec_of m') (sym r.drawing.under_way.counted) a (r.noted wanted);
   }
 

@@ -21,9 +21,10 @@ use Rattle.trace_board.specs.Rows.{lane_in}
 use Rattle.trace_board.specs.Tracked.{Tracked, tracked_since, tracked_after, extended, let_on_by}
 use Rattle.trace_shapes.specs.declared.view.Band.{Band}
 use Rattle.trace_shapes.specs.declared.view.Strip.{Strip}
-use Rattle.trace_shapes.specs.declared.geometry.TheConstants.{LEFT, COLUMN, MARK_TOP, LANE_TOP, LANE, BAR_GAP}
-use Rattle.trace_shapes.specs.Places.{in_view, band_of, event_x, mark_y, bar_x, bar_width}
+use Rattle.trace_shapes.specs.declared.geometry.TheConstants.{LEFT, COLUMN, MARK_TOP, LANE, BAR_GAP}
+use Rattle.trace_shapes.specs.Places.{in_view, band_of, row_in, lanes_top, event_x, mark_y, bar_x, bar_width}
 use Rattle.trace_shapes.specs.Shapes.{begins, mark_id, place_text, box_text, bar_box, bar_name, bar_text, taken_text, span_text, given_text, line_of, number_text, mark_text, object_if, with_number}
+use Rattle.trace_picture.specs.declared.plan.Page.{Page}
 use Rattle.trace_picture.specs.Lives.{life_row}
 use Rattle.trace_picture.specs.Bands.{opening, closing_after, up_to, strip_of, taken_strip, bar_if, taken_if, bar_ended, taken_ended, wait_ended, bars_ended, arrows_at, event_shapes, step_text}
 use Rattle.trace_board.specs.Laws.{IsSince}
@@ -100,17 +101,17 @@ marked_there : (op num life mark object bars arrow cl : List ℕ)
     → op ++ (num ++ life ++ mark ++ object ++ bars ++ arrow) ++ cl ≡ (op ++ num ++ life) ++ mark ++ (object ++ (bars ++ (arrow ++ cl)))
 marked_there op num life mark object bars arrow cl = simp append_assoc
 
-mark_there : (l : Layout) (v : DrawnRange) (k : Tracked) (n : ℕ) (e : Event) → in_view v n ≡ true → HasText (step_text l v k n e) (mark_text v.ordered (band_of l v n) n e)
+mark_there : (l : Layout) (v : DrawnRange) (p : Page) (k : Tracked) (n : ℕ) (e : Event) → in_view v n ≡ true → HasText (step_text l v p k n e) (mark_text v.ordered (band_of l v p.plan n) n e)
 unfolding step_text event_shapes
-mark_there l v k n e seen =
-    let b = band_of l v n in
-    let op = opening l v k n in
+mark_there l v p k n e seen =
+    let b = band_of l v p.plan n in
+    let op = opening l v p k n in
     let life = life_row b n (marks e).life in
     let mark = mark_text v.ordered b n e in
     let object = object_if b n e in
     let bars = bars_ended (up_to b n) k (marks e) in
     let arrow = arrows_at b k (origin_of n e) (marks e) in
-    let cl = closing_after l v (tracked_after n e k) n in
+    let cl = closing_after l v p.plan (tracked_after n e k) n in
     record {
       before = op ++ number_text b n ++ life;
       after = object ++ (bars ++ (arrow ++ cl));
@@ -119,15 +120,15 @@ mark_there l v k n e seen =
 
 pub events_are_marked : EventsAreMarked
 unfolding mark_text
-events_are_marked = λ l v k n e seen.
-    let b = band_of l v n in
+events_are_marked = λ l v p k n e seen.
+    let b = band_of l v p.plan n in
     let column : n - b.start ≡ (n - v.first) % 50 = omega arith in
     let tag = codes "<use href='#" ++ (look_of (marks e).mark).letter ∷ [] in
-    let place : ℕ → List ℕ = λ c. place_text (LEFT + COLUMN * c) (upper_of l e.thread.0 + MARK_TOP) in
+    let place : ℕ → List ℕ = λ c. place_text (LEFT + COLUMN * c) (upper_of p e.thread.0 + MARK_TOP) in
     let id = mark_id v.ordered n e in
     let rest = codes "'><title>" ++ line_of n e in
     let end = codes "</title></use>\n" in
-    has_in (step_text l v k n e) (mark_text v.ordered b n e) (tag ++ place ((n - v.first) % 50)) (mark_there l v k n e seen)
+    has_in (step_text l v p k n e) (mark_text v.ordered b n e) (tag ++ place ((n - v.first) % 50)) (mark_there l v p k n e seen)
     (record { before = []; after = id ++ (rest ++ end); text = at_once (tag ++ place (n - b.start)) id rest end ∙ ap (λ c. [] ++ (tag ++ place c) ++ (id ++ (rest ++ end))) column })
   where
     at_once : (part id rest end : List ℕ) → part ++ id ++ rest ++ end ≡ [] ++ part ++ (id ++ (rest ++ end))
@@ -156,8 +157,8 @@ takes_got t (Join who) m h = let bad : none ≡ some m = h in cc
 
 pub rings_are_named : RingsAreNamed
 unfolding mark_text
-rings_are_named = λ l v k es n ordered f seen.
-    let b = band_of l v n.place in
+rings_are_named = λ l v p k es n ordered f seen.
+    let b = band_of l v p.plan n.place in
     let e = f.event in
     let tag = codes "<use href='#" ++ (look_of (marks e).mark).letter ∷ [] in
     let place = place_text (event_x b n.place) (mark_y b e.thread.0) in
@@ -166,23 +167,23 @@ rings_are_named = λ l v k es n ordered f seen.
     let end = codes "</title></use>\n" in
     let both : (v.ordered && begins (marks e).mutex) ≡ true = ap (λ x. x && begins (marks e).mutex) ordered ∙ takes_got e.thread.0 e.action n.inner.0 f.gets in
     let id : mark_id v.ordered n.place e ≡ name = cond-true (v.ordered && begins (marks e).mutex) name [] both in
-    has_in (step_text l v k n.place e) (mark_text v.ordered b n.place e) (name ++ title) (mark_there l v k n.place e seen)
+    has_in (step_text l v p k n.place e) (mark_text v.ordered b n.place e) (name ++ title) (mark_there l v p k n.place e seen)
     (record { before = tag ++ place; after = end; text = ap (λ x. (tag ++ place) ++ x ++ title ++ end) id ∙ inside (tag ++ place) name title end })
   where
     inside : (a b c d : List ℕ) → a ++ b ++ c ++ d ≡ a ++ (b ++ c) ++ d
     inside a b c d = simp append_assoc
 
 -- the bar that the event ends is in what it adds
-module _ (l : Layout) (v : DrawnRange) (k : Tracked) (n : ℕ) (e : Event) (seen : in_view v n ≡ true) (m : ℕ) (o : Origin) where
+module _ (l : Layout) (v : DrawnRange) (p : Page) (k : Tracked) (n : ℕ) (e : Event) (seen : in_view v n ≡ true) (m : ℕ) (o : Origin) where
   abbrev b : Band
-  b = band_of l v n
+  b = band_of l v p.plan n
 
   abbrev box_at : ℕ → List ℕ
-  box_at lane = box_text (bar_x (up_to b n) o) (upper_of l o.thread.0 + LANE_TOP + LANE * lane) (bar_width (up_to b n) o)
+  box_at lane = box_text (bar_x (up_to b n) o) (upper_of p o.thread.0 + lanes_top (row_in p.plan o.thread.0).kind + LANE * lane) (bar_width (up_to b n) o)
 
   box_is : (s : Strip) → s.since ≡ o → bar_box (up_to b n) s ≡ box_at s.lane
   unfolding bar_box
-  box_is s is = ap (λ (p : Origin). box_text (bar_x (up_to b n) p) (upper_of l p.thread.0 + LANE_TOP + LANE * s.lane) (bar_width (up_to b n) p)) is
+  box_is s is = ap (λ (q : Origin). box_text (bar_x (up_to b n) q) (upper_of p q.thread.0 + lanes_top (row_in p.plan q.thread.0).kind + LANE * s.lane) (bar_width (up_to b n) q)) is
 
   abbrev taken : List ℕ
   taken = taken_ended (up_to b n) k (marks e).semaphore
@@ -191,16 +192,16 @@ module _ (l : Layout) (v : DrawnRange) (k : Tracked) (n : ℕ) (e : Event) (seen
   wait = wait_ended (up_to b n) k (let_on_by k (marks e).waker) (marks e).wait
 
   -- of a mutex
-  bar_there : (marks e).mutex ≡ Ends m → k.held m ≡ Some o → HasText (step_text l v k n e) (with_number (codes "<rect class='m") m ++ box_at (lane_in (k.rows o.thread.0) (Mutex m)))
+  bar_there : (marks e).mutex ≡ Ends m → k.held m ≡ Some o → HasText (step_text l v p k n e) (with_number (codes "<rect class='m") m ++ box_at (lane_in (k.rows o.thread.0) (Mutex m)))
   unfolding step_text event_shapes bar_text
   bar_there effect held =
-      let op = opening l v k n in
+      let op = opening l v p k n in
       let num = number_text b n in
       let life = life_row b n (marks e).life in
       let mark = mark_text v.ordered b n e in
       let object = object_if b n e in
       let arrow = arrows_at b k (origin_of n e) (marks e) in
-      let cl = closing_after l v (tracked_after n e k) n in
+      let cl = closing_after l v p.plan (tracked_after n e k) n in
       let strip = strip_of k m o in
       let name = with_number (codes "<rect class='m") m in
       let height = with_number (codes "' height='12' rx='2'><title>m") m in
@@ -220,17 +221,17 @@ module _ (l : Layout) (v : DrawnRange) (k : Tracked) (n : ℕ) (e : Event) (seen
       }
 
   -- of a semaphore
-  taking_there : (marks e).semaphore ≡ Ends m → k.taken m ≡ Some o → HasText (step_text l v k n e) (codes "<rect class='e" ++ box_at (lane_in (k.rows o.thread.0) (Semaphore m)))
+  taking_there : (marks e).semaphore ≡ Ends m → k.taken m ≡ Some o → HasText (step_text l v p k n e) (codes "<rect class='e" ++ box_at (lane_in (k.rows o.thread.0) (Semaphore m)))
   unfolding step_text event_shapes taken_text
   taking_there effect since =
-      let op = opening l v k n in
+      let op = opening l v p k n in
       let num = number_text b n in
       let life = life_row b n (marks e).life in
       let mark = mark_text v.ordered b n e in
       let object = object_if b n e in
       let bars = bar_ended (up_to b n) k (marks e).mutex in
       let arrow = arrows_at b k (origin_of n e) (marks e) in
-      let cl = closing_after l v (tracked_after n e k) n in
+      let cl = closing_after l v p.plan (tracked_after n e k) n in
       let strip = taken_strip k m o in
       let name = codes "<rect class='e" in
       let height = with_number (codes "' height='12' rx='2'><title>s") m in
@@ -305,12 +306,12 @@ since_near : (b : Bar) (o : Origin) (es : List Event) → IsSince b o (extended 
 since_near b o es h = omega (arith, h.place, ap length h.split, length-append h.later (h.taking ∷ h.earlier), length-extended [] es)
 
 pub bars_are_drawn : BarsAreDrawn
-bars_are_drawn = λ l v es s r e may m effect seen.
+bars_are_drawn = λ l v p es s r e may m effect seen.
     let past = extended [] es in
     let k = tracked_since past in
     let n = length es in
     let t = e.thread.0 in
-    let b = band_of l v n in
+    let b = band_of l v p.plan n in
     let h = held_since m t past (k.held m) (s.holder m) (gives_own t e.action s m effect may.requires_met) (holding.bars_are_holds l.version es s r m) in
     let o = h.0 in
     let near : o.place < n = since_near (Mutex m) o es h.3 in
@@ -319,7 +320,7 @@ bars_are_drawn = λ l v es s r e may m effect seen.
         o = o;
         lane = lane_in (k.rows o.thread.0) (Mutex m);
         since = h.3;
-        drawn = bar_there l v k n e seen m o effect h.1;
+        drawn = bar_there l v p k n e seen m o effect h.1;
         from_taking = λ le. left_here b n o (omega arith) le;
         from_before = λ lt. left_before b n o first lt;
         ends = right_edge b n o first (omega arith);
@@ -328,11 +329,11 @@ bars_are_drawn = λ l v es s r e may m effect seen.
     )
 
 pub takings_are_drawn : TakingsAreDrawn
-takings_are_drawn = λ l v es s r e m effect shut seen.
+takings_are_drawn = λ l v p es s r e m effect shut seen.
     let past = extended [] es in
     let k = tracked_since past in
     let n = length es in
-    let b = band_of l v n in
+    let b = band_of l v p.plan n in
     let h = taken_since m past (k.taken m) (s.avail m) shut (holding.bars_are_takings l.version es s r m) in
     let o = h.0 in
     let near : o.place < n = since_near (Semaphore m) o es h.2 in
@@ -341,7 +342,7 @@ takings_are_drawn = λ l v es s r e m effect shut seen.
       o = o;
       lane = lane_in (k.rows o.thread.0) (Semaphore m);
       since = h.2;
-      drawn = taking_there l v k n e seen m o effect h.1;
+      drawn = taking_there l v p k n e seen m o effect h.1;
       from_taking = λ le. left_here b n o (omega arith) le;
       from_before = λ lt. left_before b n o first lt;
       ends = right_edge b n o first (omega arith);

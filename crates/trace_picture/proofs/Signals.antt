@@ -101,14 +101,14 @@ wakes_there b t (Join who) o s c u stands signal is gone lt = absurd signal
 
 pub signals_are_drawn : SignalsAreDrawn
 unfolding arrows_at
-signals_are_drawn = λ l v es s r e c u signal member gone lt seen.
+signals_are_drawn = λ l v p es s r e c u signal member gone lt seen.
     let k = tracked_since (extended [] es) in
     let n = length es in
-    let b = band_of l v n in
+    let b = band_of l v p.plan n in
     let o = origin_of n e in
     let m = marks e in
     let stands = awaits c (k.stands u) (sym ((reported_run l.version es s r).stands c u) ∙ member) in
-    has_in (step_text l v k n e) (arrows_at b k o m) (wake_text b o u) (arrows_there l v k n e seen)
+    has_in (step_text l v p k n e) (arrows_at b k o m) (wake_text b o u) (arrows_there l v p k n e seen)
     (has_in (arrows_at b k o m) (wakes_by b o k.stands m.stand) (wake_text b o u)
     (record { before = arrow_by b k o m.wait m.waker; after = fork_by b o m.life; text = refl })
     (wakes_there b e.thread.0 e.action o s c u k.stands signal stands gone lt))

@@ -1,7 +1,9 @@
 -- What each event adds to the picture.
-use Rattle.std.specs.Prelude.{ℕ, ◌+◌, ◌-◌, ◌/◌, ◌==◌, nat_lt, Bool, true, false, if◌then◌else◌, List, [], ◌++◌, codes, Some, None}
+use Rattle.std.specs.Prelude.{ℕ, ◌+◌, ◌-◌, ◌/◌, ◌==◌, ◌&&◌, nat_lt, Bool, true, false, if◌then◌else◌, List, [], ◌++◌, codes, Some, None}
 use Rattle.std.specs.declared.option.Option.{Option}
 use Rattle.larch_actions.specs.declared.event.Layout.{Layout}
+use Rattle.larch_actions.specs.declared.event.Version.{Version}
+use Rattle.larch_actions.specs.State.{count_below}
 use Rattle.larch_actions.specs.declared.event.Event.{Event}
 use Rattle.larch_actions.specs.declared.event.Broken.{Broken}
 use Rattle.larch_actions.specs.declared.thread_set.ThreadSet.{ThreadSet}
@@ -17,20 +19,23 @@ use Rattle.trace_board.specs.declared.board.Reason.TheVariants as waker
 use Rattle.trace_board.specs.declared.board.Reason.TheVariants.{Condition, Alerted, Ended, Nobody}
 use Rattle.trace_board.specs.declared.rows.Bar.TheVariants.{Mutex, Semaphore}
 use Rattle.trace_shapes.specs.declared.view.DrawnRange.{DrawnRange}
+use Rattle.trace_shapes.specs.declared.view.Plan.{Plan}
 use Rattle.trace_shapes.specs.declared.view.Band.{Band}
 use Rattle.trace_shapes.specs.declared.view.Reach.{Reach}
 use Rattle.trace_shapes.specs.declared.view.Strip.{Strip}
-use Rattle.trace_shapes.specs.declared.geometry.TheConstants.{BAND, BAND_GAP, LINES_TOP}
+use Rattle.trace_shapes.specs.declared.geometry.TheConstants.{BAND, LINES_TOP, NAME_LINE, IDLE_NAMES}
 use Rattle.trace_board.specs.Marks.{marks}
 use Rattle.trace_board.specs.Tracked.{Tracked, tracked_after, came, let_on_by}
 use Rattle.trace_board.specs.History.{origin_of}
 use Rattle.trace_board.specs.Rows.{lane_in}
-use Rattle.trace_shapes.specs.Places.{in_view, column, is_open, band_of, band_top, band_height}
+use Rattle.trace_shapes.specs.Places.{in_view, column, is_open, band_of}
 use Rattle.trace_shapes.specs.Shapes.{with_number, each_below, mark_text, object_if, failed_text, bar_text, taken_text, wait_text, number_text}
 use Rattle.trace_shapes.specs.declared.view.Freeing.{Freeing}
 use Rattle.trace_shapes.specs.declared.view.Shape.{Shape}
-use Rattle.trace_shapes.specs.declared.view.Shape.TheVariants.{Straight, Bent, Joined}
+use Rattle.trace_shapes.specs.declared.view.Shape.TheVariants.{Straight, Bent, FromEnd}
 use Rattle.trace_shapes.specs.Arrows.{arrow_if, wake_if, fork_text}
+use Rattle.trace_picture.specs.declared.plan.Page.{Page}
+use Rattle.trace_picture.specs.Plan.{is_idle, idle_count}
 use Rattle.trace_picture.specs.Lives.{row_if, life_row}
 use Rattle.trace_picture.specs.Overview.{column_text}
 
@@ -39,8 +44,8 @@ abbrev pub band_number : DrawnRange → Band → ℕ
 band_number v b = (b.start - v.first) / BAND
 
 -- the lines at each tenth column, to the lower edge of the last row
-abbrev pub lines_height : Layout → ℕ
-lines_height l = band_height l - (BAND_GAP + LINES_TOP)
+abbrev pub lines_height : Plan → ℕ
+lines_height p = p.end - LINES_TOP
 
 unfoldable pub lines_text : ℕ → List ℕ
 lines_text height =
@@ -48,14 +53,31 @@ lines_text height =
     ++ with_number (codes "M763 17v") height ++ with_number (codes "M1003 17v") height ++ codes "'/>\n"
 
 -- the first tag of a band
-unfoldable pub band_tag : Layout → ℕ → List ℕ
-band_tag l k = with_number (codes "<g id='b") k ++ with_number (codes "' transform='translate(0 ") (band_top l k) ++ codes ")'>\n"
+unfoldable pub band_tag : ℕ → ℕ → List ℕ
+band_tag top k = with_number (codes "<g id='b") k ++ with_number (codes "' transform='translate(0 ") top ++ codes ")'>\n"
+
+-- the line that names the threads that live and have no row: the first of them, and how many more there are
+abbrev pub idle_name : Version → Plan → Tracked → ℕ → List ℕ
+idle_name version p k t =
+    if is_idle version p k t && nat_lt (count_below (is_idle version p k) t) IDLE_NAMES then with_number (codes " t") t else []
+
+abbrev pub more_idle : ℕ → List ℕ
+more_idle idle = if nat_lt IDLE_NAMES idle then with_number (codes " and ") (idle - IDLE_NAMES) ++ codes " more" else []
+
+unfoldable pub idle_line : Layout → Plan → Tracked → List ℕ
+idle_line l p k =
+    with_number (codes "<text class='c' x='6' y='") (p.end + NAME_LINE) ++ codes "'>idle:" ++ each_below (idle_name l.version p k) l.threads
+    ++ more_idle (idle_count l p k) ++ codes "</text>\n"
+
+abbrev pub idle_text : Layout → Plan → Tracked → List ℕ
+idle_text l p k = if nat_lt 0 (idle_count l p k) then idle_line l p k else []
 
 -- a new band with its rows, where the event n begins one
-unfoldable pub opening : Layout → DrawnRange → Tracked → ℕ → List ℕ
-opening l v k n =
+unfoldable pub opening : Layout → DrawnRange → Page → Tracked → ℕ → List ℕ
+opening l v p k n =
     if column v n == 0 then
-    band_tag l (band_number v (band_of l v n)) ++ each_below (row_if l.version (band_of l v n) k) l.threads ++ lines_text (lines_height l)
+    band_tag p.top (band_number v (band_of l v p.plan n)) ++ each_below (row_if l.version (band_of l v p.plan n) k) l.threads
+    ++ lines_text (lines_height p.plan) ++ idle_text l p.plan k
     else []
 
 -- a bar that goes on up to the event before `to`, and one that ends with the event n
@@ -119,23 +141,23 @@ wait_ended r k p (Ends t) = wait_if r p (k.waits t)
 wait_ended r k p Stays = []
 
 -- the end of the band of the event n, where it is full or the part that is drawn ends
-unfoldable pub closing_after : Layout → DrawnRange → Tracked → ℕ → List ℕ
-closing_after l v k n = if is_open v (n + 1) then [] else closing l v (band_of l v n) k (n + 1)
+unfoldable pub closing_after : Layout → DrawnRange → Plan → Tracked → ℕ → List ℕ
+closing_after l v p k n = if is_open v (n + 1) then [] else closing l v (band_of l v p n) k (n + 1)
 
 -- the bars that the event n ends
 abbrev pub bars_ended : Reach → Tracked → Effects → List ℕ
 bars_ended r k m = bar_ended r k m.mutex ++ taken_ended r k m.semaphore ++ wait_ended r k (let_on_by k m.waker) m.wait
 
 -- the arrow to the event o, where another thread let its thread go on: one that was in a condition has its arrow at the event that took it out
-abbrev pub alarmed : Change → Shape
-alarmed (Ends t) = Straight
-alarmed _ = Bent
+abbrev pub way_from_alert : Change → Shape
+way_from_alert (Ends t) = Straight
+way_from_alert _ = Bent
 
 abbrev pub arrow_by : Band → Tracked → Origin → Change → Reason → List ℕ
 arrow_by b k o wait (Condition t) = []
 arrow_by b k o wait (waker.Semaphore s) = arrow_if Bent b o.place o.thread.0 (let_on_by k (waker.Semaphore s))
-arrow_by b k o wait (Alerted t) = arrow_if (alarmed wait) b o.place o.thread.0 (let_on_by k (Alerted t))
-arrow_by b k o wait (Ended t) = arrow_if Joined b o.place o.thread.0 (let_on_by k (Ended t))
+arrow_by b k o wait (Alerted t) = arrow_if (way_from_alert wait) b o.place o.thread.0 (let_on_by k (Alerted t))
+arrow_by b k o wait (Ended t) = arrow_if FromEnd b o.place o.thread.0 (let_on_by k (Ended t))
 arrow_by b k o wait Nobody = []
 
 -- the arrows to the threads that the event o takes out of their condition
@@ -174,15 +196,17 @@ event_marks ordered b k n e =
 unfoldable pub event_shapes : Bool → Band → Tracked → ℕ → Event → List ℕ
 event_shapes ordered b k n e = event_marks ordered b k n e ++ arrows_at b k (origin_of n e) (marks e)
 
--- all that the event n adds, where it is drawn
-unfoldable pub step_text : Layout → DrawnRange → Tracked → ℕ → Event → List ℕ
-step_text l v k n e =
-    if in_view v n then opening l v k n ++ event_shapes v.ordered (band_of l v n) k n e ++ closing_after l v (tracked_after n e k) n else []
+-- all that the event n adds on this page, where it is drawn
+unfoldable pub step_text : Layout → DrawnRange → Page → Tracked → ℕ → Event → List ℕ
+step_text l v p k n e =
+    if in_view v n then
+    opening l v p k n ++ event_shapes v.ordered (band_of l v p.plan n) k n e ++ closing_after l v p.plan (tracked_after n e k) n
+    else []
 
 -- all that an event that fails adds, where it is drawn: it ends its band, and the bars that go on end before it
-unfoldable pub failing_text : Layout → DrawnRange → Tracked → ℕ → Event → Broken → List ℕ
-failing_text l v k n e why =
+unfoldable pub failing_text : Layout → DrawnRange → Page → Tracked → ℕ → Event → Broken → List ℕ
+failing_text l v p k n e why =
     if in_view v n then
-    opening l v k n ++ bars_on l (on_to (band_of l v n) n) k ++ (number_text (band_of l v n) n ++ failed_text (band_of l v n) n e why)
-    ++ band_end l v (band_of l v n) k (n + 1)
+    opening l v p k n ++ bars_on l (on_to (band_of l v p.plan n) n) k
+    ++ (number_text (band_of l v p.plan n) n ++ failed_text (band_of l v p.plan n) n e why) ++ band_end l v (band_of l v p.plan n) k (n + 1)
     else []

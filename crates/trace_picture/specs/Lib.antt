@@ -1,10 +1,12 @@
 pub mod Lives
 pub mod Overview
+pub mod Plan
 pub mod Bands
 pub mod Shown
 pub mod Longest
 pub mod Verdicts
 pub mod Picture
+pub mod Keeping
 pub mod Rings
 pub mod Drawn
 pub mod Seen

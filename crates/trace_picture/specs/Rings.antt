@@ -13,12 +13,11 @@ use Rattle.lock_order.specs.declared.lock_graph.LockGraph.{LockGraph}
 use Rattle.lock_order.specs.Order.{HasCycle, ReportsCycle}
 use Rattle.lock_order.specs.Kept.{IsKept}
 use Rattle.trace_shapes.specs.declared.view.DrawnRange.{DrawnRange}
-use Rattle.trace_board.specs.Tracked.{extended}
 use Rattle.trace_shapes.specs.Shapes.{with_number}
-use Rattle.trace_picture.specs.Shown.{Drawn, drawn_since}
+use Rattle.trace_picture.specs.Shown.{Drawn}
 use Rattle.trace_picture.specs.Verdicts.{legal_words, counted_line}
 use Rattle.trace_picture.specs.declared.verdicts.TheConstants.{TWO_LINES}
-use Rattle.trace_picture.specs.Picture.{closing_if, end_text, ending, prefix_picture}
+use Rattle.trace_picture.specs.Picture.{closing_if, end_text, ending, prefix_picture, drawn_at}
 
 -- the edge of the mark of the event by which the inner mutex was got while the outer one was held
 unfoldable pub ring_text : Edge → List ℕ
@@ -48,7 +47,7 @@ ringed_line v n s ns = counted_line v n ringed_words (Some s) ++ cycle_text ns
 
 -- the end of the picture of n events, with rings around the events of this cycle
 abbrev pub ringed_ending : Layout → DrawnRange → Drawn → ℕ → Summary → List Edge → List ℕ
-ringed_ending l v d n s ns = closing_if l v d.board n ++ rings_text ns ++ end_text l v d n TWO_LINES (ringed_line v n s ns)
+ringed_ending l v d n s ns = closing_if l v d.page.plan d.board n ++ rings_text ns ++ end_text l v d n TWO_LINES (ringed_line v n s ns)
 
 -- A cycle of the events is ringed, or they have none and this is said.
 abbrev pub ShowsOrdered : Layout → DrawnRange → Drawn → ℕ → Summary → List Event → List ℕ → Type 0
@@ -64,7 +63,7 @@ IsEnding true l v d n s es text = ShowsOrdered l v d n s es text
 -- the whole picture of a legal trace with these counts
 abbrev pub IsLegalPicture : Layout → DrawnRange → Summary → List Event → List ℕ → Type 0
 IsLegalPicture l v s es text =
-    (end : List ℕ) × IsEnding v.ordered l v (drawn_since l v (extended [] es)) (length es) s es end × (text ≡ prefix_picture l v es ++ end)
+    (end : List ℕ) × IsEnding v.ordered l v (drawn_at l v [] es) (length es) s es end × (text ≡ prefix_picture l v [] es ++ end)
 
 -- it is kept what n events nest
 abbrev pub AreNoted : LockGraph → ℕ → Type 0

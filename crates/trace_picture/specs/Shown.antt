@@ -19,20 +19,24 @@ use Rattle.trace_shapes.specs.declared.view.DrawnRange.{DrawnRange}
 use Rattle.trace_shapes.specs.declared.legend.TheConstants.{ARROWS, TAKINGS, HOLDS, WAITS, LET_GO}
 use Rattle.trace_shapes.specs.Looks.{look_of}
 use Rattle.trace_shapes.specs.Shapes.{begins}
-use Rattle.trace_shapes.specs.Places.{in_view, column, band_of}
+use Rattle.trace_shapes.specs.declared.view.Band.{Band}
+use Rattle.trace_shapes.specs.Places.{in_view, column}
 use Rattle.trace_picture.specs.declared.shown.Drawing.{Drawing}
+use Rattle.trace_picture.specs.declared.plan.Page.{Page}
+use Rattle.trace_picture.specs.Plan.{no_page}
 use Rattle.trace_picture.specs.Bands.{arrows_at}
 
--- what is kept of the events before, and what was drawn
+-- what is kept of the events before, what was drawn, and the band under way
 pub record Drawn : Type 0 where
   pub board : Tracked
   pub shown : ℕ → Option Origin
+  pub page : Page
 
 abbrev pub drawn_of : Drawing → Drawn
-drawn_of d = record { board = tracked_of d.board; shown = entry_of d.shown }
+drawn_of d = record { board = tracked_of d.board; shown = entry_of d.shown; page = d.page }
 
 abbrev pub nothing_drawn : Drawn
-nothing_drawn = record { board = nothing_tracked; shown = λ (k : ℕ). None }
+nothing_drawn = record { board = nothing_tracked; shown = λ (k : ℕ). None; page = no_page }
 
 abbrev pub has_text : List ℕ → Bool
 has_text [] = false
@@ -75,27 +79,34 @@ shown_by o m arrows shown =
     (shown_if HOLDS (begins m.mutex) o
     (shown_if (look_of m.mark).letter true o shown)))))
 
+-- Whether an event has arrows is the same in all bands: said of one without rows.
+abbrev pub bare_band : Layout → Band
+bare_band l = record { start = 0; threads = l.threads; plan = record { rows = []; end = 0 } }
+
+abbrev pub has_arrows : Layout → Tracked → Origin → Effects → Bool
+has_arrows l k o m = has_text (arrows_at (bare_band l) k o m)
+
 -- what was drawn after the event n, which shows something where it is drawn
 abbrev pub shown_after : Layout → DrawnRange → Tracked → ℕ → Event → (ℕ → Option Origin) → ℕ → Option Origin
 shown_after l v k n e shown =
     if in_view v n then
-    shown_by (origin_of n e) (marks e) (has_text (arrows_at (band_of l v n) k (origin_of n e) (marks e))) (opened l v k (origin_of n e) shown)
+    shown_by (origin_of n e) (marks e) (has_arrows l k (origin_of n e) (marks e)) (opened l v k (origin_of n e) shown)
     else shown
 
 abbrev pub drawn_after : Layout → DrawnRange → ℕ → Event → Drawn → Drawn
-drawn_after l v n e d = record { board = tracked_after n e d.board; shown = shown_after l v d.board n e d.shown }
+drawn_after l v n e d = record { board = tracked_after n e d.board; shown = shown_after l v d.board n e d.shown; page = d.page }
 
 -- what was drawn after these events
 abbrev pub shown_since : Layout → DrawnRange → List Event → ℕ → Option Origin
 shown_since l v [] = λ (k : ℕ). None
 shown_since l v (e ∷ past) = shown_after l v (tracked_since past) (length past) e (shown_since l v past)
 
-abbrev pub drawn_since : Layout → DrawnRange → List Event → Drawn
-drawn_since l v past = record { board = tracked_since past; shown = shown_since l v past }
+abbrev pub drawn_since : Layout → DrawnRange → Page → List Event → Drawn
+drawn_since l v p past = record { board = tracked_since past; shown = shown_since l v past; page = p }
 
 -- what was drawn after the event n, which failed
 abbrev pub shown_failed : Layout → DrawnRange → Tracked → Origin → (ℕ → Option Origin) → ℕ → Option Origin
 shown_failed l v k o shown = if in_view v o.place then shown_if (look_of Failed).letter true o (opened l v k o shown) else shown
 
 abbrev pub drawn_failed : Layout → DrawnRange → ℕ → Event → Drawn → Drawn
-drawn_failed l v n e d = record { board = d.board; shown = shown_failed l v d.board (origin_of n e) d.shown }
+drawn_failed l v n e d = record { board = d.board; shown = shown_failed l v d.board (origin_of n e) d.shown; page = d.page }

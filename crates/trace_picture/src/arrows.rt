@@ -4,7 +4,7 @@ ghost use Rattle.trace_board.specs.Causes.{cause_of};
 ghost use Rattle.trace_board.specs.Tracked.{tracked_of, IsNear};
 ghost use Rattle.trace_shapes.specs.Arrows.{wake_if};
 ghost use Rattle.trace_shapes.specs.Shapes.{each_below};
-ghost use Rattle.trace_picture.specs.Bands.{alarmed, arrow_by, freeing, thread_at, wake_at, wakes, wakes_by, fork_by, arrows_at};
+ghost use Rattle.trace_picture.specs.Bands.{way_from_alert, arrow_by, freeing, thread_at, wake_at, wakes, wakes_by, fork_by, arrows_at};
 
 use trace_board::board::{Reason, TraceState};
 use trace_board::causes::{CauseChange, Causes};
@@ -14,8 +14,8 @@ use trace_shapes::arrows::{add_arrow_if, add_fork, add_wake_if};
 use trace_shapes::view::{Band, Freeing, Shape};
 
 // The way of the arrow from an alert.
-fn alarmed(wait: Change) -> Shape
-    ensures { result ≡ alarmed wait }
+fn way_from_alert(wait: Change) -> Shape
+    ensures { result ≡ way_from_alert wait }
 {
     match wait {
         Change::Ends(_) => Shape::Straight,
@@ -47,11 +47,11 @@ fn add_arrow_by(
         }
         Reason::Alerted(t) => {
             let by = board.waker(Reason::Alerted(t));
-            add_arrow_if(buf, at, band, alarmed(shown.wait), *o, by)
+            add_arrow_if(buf, at, band, way_from_alert(shown.wait), *o, by)
         }
         Reason::Ended(t) => {
             let by = board.waker(Reason::Ended(t));
-            add_arrow_if(buf, at, band, Shape::Joined, *o, by)
+            add_arrow_if(buf, at, band, Shape::FromEnd, *o, by)
         }
         Reason::Nobody => at,
     }

@@ -1,18 +1,22 @@
 //! What each event adds to the picture.
-ghost use Rattle.std.specs.Prelude.{◌≡◌, ◌+◌, ◌-◌, ◌*◌, ◌<◌, ◌≤◌, ◌^◌, ◌++◌, length, take, codes, true, false, ℕ, None};
-ghost use Rattle.larch_actions.specs.Layout.{IsLawful, HasNames};
+ghost use Rattle.std.specs.Prelude.{◌≡◌, ◌+◌, ◌-◌, ◌*◌, ◌<◌, ◌≤◌, ◌^◌, ◌++◌, ◌&&◌, nat_lt, if◌then◌else◌, [], length, take, codes, true, false, ℕ, None};
+ghost use Rattle.larch_actions.specs.Layout.{IsLawful};
 ghost use Rattle.trace_board.specs.History.{entry_of, origin_of, IsWithin};
 ghost use Rattle.trace_board.specs.Causes.{cause_of};
 ghost use Rattle.trace_board.specs.Tracked.{tracked_of, tracked_after, came, IsNoted, IsNear};
 ghost use Rattle.trace_board.specs.Marks.{marks};
-ghost use Rattle.trace_shapes.specs.Places.{in_view, column, is_open, band_of, band_height, band_top};
+ghost use Rattle.larch_actions.specs.State.{count_below};
+ghost use Rattle.trace_shapes.specs.declared.geometry.TheConstants.{IDLE_NAMES};
+ghost use Rattle.trace_shapes.specs.Places.{in_view, column, is_open, band_of};
 ghost use Rattle.trace_shapes.specs.Shapes.{with_number, each_below, number_text, object_if, failed_text};
-ghost use Rattle.trace_picture.specs.Bands.{band_number, lines_height, lines_text, band_tag, opening, on_to, up_to, strip_of, taken_strip, bar_if, taken_if, wait_if, bars_on, band_end, closing, bar_ended, taken_ended, wait_ended, closing_after, bars_ended, event_marks, event_shapes, arrows_at, step_text, failing_text};
-ghost use Rattle.trace_picture.specs.Shown.{drawn_of, has_text, opened, shown_by, drawn_after};
+ghost use Rattle.trace_picture.specs.Bands.{band_number, lines_height, lines_text, band_tag, idle_name, more_idle, idle_line, idle_text, opening, on_to, up_to, strip_of, taken_strip, bar_if, taken_if, wait_if, bars_on, band_end, closing, bar_ended, taken_ended, wait_ended, closing_after, bars_ended, event_marks, event_shapes, arrows_at, step_text, failing_text};
+ghost use Rattle.trace_picture.specs.Shown.{drawn_of, has_arrows, opened, shown_by, drawn_after};
+ghost use Rattle.trace_picture.specs.Plan.{is_idle, idle_count};
 
 use crate::arrows::add_arrows;
 use crate::lives::{add_life_row, add_rows};
 use crate::overview::add_column;
+use crate::plan::{Page, count_idle, is_idle};
 use crate::shown::{Drawing, note_event, note_opening};
 use larch_actions::{Broken, Event, Layout};
 use trace_board::board::{Reason, TraceState};
@@ -20,35 +24,14 @@ use trace_board::history::{Change, Origin};
 use trace_board::marks::{Effects, marks_of};
 use trace_board::rows::Bar;
 use trace_core::add;
-use trace_shapes::geometry::{AXIS, BAND, BAND_GAP, LINES_TOP};
+use trace_shapes::geometry::{BAND, IDLE_NAMES, LINES_TOP, NAME_LINE};
 use trace_shapes::shapes::{
-    add_bar, add_failed, add_label, add_mark, add_object_if, add_taken_bar, add_wait_bar, row_step,
+    add_bar, add_failed, add_label, add_mark, add_object_if, add_taken_bar, add_wait_bar,
 };
 use trace_shapes::tags::add_with_number;
 use trace_shapes::view::{
-    Band, DrawnRange, Reach, Strip, band_of, column_of, is_band_open, is_in_view, lanes_of,
+    Band, DrawnRange, Plan, Reach, Strip, band_of, column_of, is_band_open, is_in_view,
 };
-
-// How far below one another the bands stand.
-#[tactic(auto, using(larch_actions::proofs::Names::few_threads))]
-fn height_of_band(layout: &Layout) -> u64
-    requires { IsLawful layout.now }
-    ensures height { result ≡ band_height layout.now }
-    ensures small { result < 2 ^ 17 }
-    ensures large { 32 ≤ result }
-{
-    row_step(lanes_of(layout)) * u64::from(layout.threads) + (AXIS + BAND_GAP)
-}
-
-/// The upper edge of a band, below the legend.
-pub fn top_of(layout: &Layout, band: u64) -> u64
-    requires lawful { IsLawful layout.now }
-    requires few { band < 2 ^ 42 }
-    ensures top { result ≡ band_top layout.now band }
-    ensures small { result < 2 ^ 60 }
-{
-    band * height_of_band(layout)
-}
 
 // The number of a band.
 fn number_of(view: &DrawnRange, band: &Band) -> u64
@@ -60,15 +43,13 @@ fn number_of(view: &DrawnRange, band: &Band) -> u64
 
 // Adds the first tag of a band.
 #[tactic(auto, unfolding(crate::specs::Bands::band_tag))]
-fn add_band(buf: &mut [u8], at: usize, layout: &Layout, band: u64) -> usize
-    requires lawful { IsLawful layout.now }
-    requires few { band < 2 ^ 42 }
-    requires room { at + 100 ≤ length buf.old }
-    ensures text { take result buf.new ≡ take at buf.old ++ band_tag layout.now band }
+fn add_band(buf: &mut [u8], at: usize, top: u64, band: u64) -> usize
+    requires { at + 100 ≤ length buf.old }
+    ensures text { take result buf.new ≡ take at buf.old ++ band_tag top band }
     ensures near { result ≤ at + 100 }
 {
     let at = add_with_number(buf, at, b"<g id='b", band);
-    let at = add_with_number(buf, at, b"' transform='translate(0 ", top_of(layout, band));
+    let at = add_with_number(buf, at, b"' transform='translate(0 ", top);
     add(buf, at, b")'>\n")
 }
 
@@ -86,27 +67,145 @@ fn add_lines(buf: &mut [u8], at: usize, height: u64) -> usize
     add(buf, at, b"'/>\n")
 }
 
+// How far the lines go down.
+fn lines_height(plan: &Plan) -> u64
+    ensures { result ≡ lines_height plan.now }
+{
+    u64::from(plan.end).saturating_sub(LINES_TOP)
+}
+
+// Adds the name of the thread where it is one of the first that live and have no row, and says whether it is one.
+fn add_idle_name(
+    buf: &mut [u8],
+    at: usize,
+    idle: bool,
+    before: u32,
+    t: u32,
+) -> usize
+    requires { at + 22 ≤ length buf.old }
+    ensures text { take result buf.new ≡ take at buf.old ++ (if idle && nat_lt before IDLE_NAMES then with_number (codes " t") t else []) }
+    ensures near { result ≤ at + 22 }
+{
+    if idle && before < IDLE_NAMES {
+        add_with_number(buf, at, b" t", u64::from(t))
+    } else {
+        at
+    }
+}
+
+// One, if so.
+fn one_if(so: bool) -> u32
+    ensures { result ≡ (if so then 1 else 0) }
+{
+    if so { 1 } else { 0 }
+}
+
+// Adds the names of the first threads that live and have no row.
+fn add_idle_names(
+    buf: &mut [u8],
+    at: usize,
+    layout: &Layout,
+    plan: &Plan,
+    board: &TraceState,
+) -> usize
+    requires lawful { layout.now.threads ≤ 256 }
+    requires room { at + 5700 ≤ length buf.old }
+    ensures text { take result buf.new ≡ take at buf.old ++
+        each_below (idle_name layout.now.version plan.now (tracked_of board.now)) layout.now.threads }
+    ensures near { result ≤ at + 5700 }
+{
+    let mut last = at;
+    let mut before = 0;
+    for t in 0..layout.threads {
+        let idle = is_idle(layout.version, plan, board, t);
+        last = add_idle_name(buf, last, idle, before, t);
+        let more = one_if(idle);
+        before += more;
+    }
+    last
+}
+
+// Adds how many more there are.
+fn add_more_idle(buf: &mut [u8], at: usize, idle: u32) -> usize
+    requires { at + 40 ≤ length buf.old }
+    ensures text { take result buf.new ≡ take at buf.old ++ more_idle idle }
+    ensures near { result ≤ at + 40 }
+{
+    if IDLE_NAMES < idle {
+        let at = add_with_number(buf, at, b" and ", u64::from(idle - IDLE_NAMES));
+        add(buf, at, b" more")
+    } else {
+        at
+    }
+}
+
+// Adds the line that names them, of whom there are so many.
+#[tactic(auto, using(larch_actions::proofs::Names::few_threads), unfolding(crate::specs::Bands::idle_line))]
+fn add_idle_line(
+    buf: &mut [u8],
+    at: usize,
+    layout: &Layout,
+    plan: &Plan,
+    board: &TraceState,
+    idle: u32,
+) -> usize
+    requires lawful { IsLawful layout.now }
+    requires count { idle ≡ idle_count layout.now plan.now (tracked_of board.now) }
+    requires room { at + 5900 ≤ length buf.old }
+    ensures text { take result buf.new ≡ take at buf.old ++ idle_line layout.now plan.now (tracked_of board.now) }
+    ensures near { result ≤ at + 5900 }
+{
+    let line = u64::from(plan.end) + NAME_LINE;
+    let at = add_with_number(buf, at, b"<text class='c' x='6' y='", line);
+    let at = add(buf, at, b"'>idle:");
+    let at = add_idle_names(buf, at, layout, plan, board);
+    let at = add_more_idle(buf, at, idle);
+    add(buf, at, b"</text>\n")
+}
+
+// The same, where there are any.
+fn add_idle(
+    buf: &mut [u8],
+    at: usize,
+    layout: &Layout,
+    plan: &Plan,
+    board: &TraceState,
+) -> usize
+    requires lawful { IsLawful layout.now }
+    requires room { at + 5900 ≤ length buf.old }
+    ensures text { take result buf.new ≡ take at buf.old ++ idle_text layout.now plan.now (tracked_of board.now) }
+    ensures near { result ≤ at + 5900 }
+{
+    let idle = count_idle(layout, plan, board);
+    if 0 < idle {
+        add_idle_line(buf, at, layout, plan, board, idle)
+    } else {
+        at
+    }
+}
+
 // Adds a new band where the event begins one.
-#[tactic(auto, using(larch_actions::proofs::Names::few_threads), unfolding(crate::specs::Bands::opening))]
+#[tactic(auto, unfolding(crate::specs::Bands::opening))]
 fn add_opening(
     buf: &mut [u8],
     at: usize,
     layout: &Layout,
     view: &DrawnRange,
+    page: &Page,
     board: &TraceState,
     place: u64,
 ) -> usize
     requires lawful { IsLawful layout.now }
-    requires few { place < 2 ^ 41 }
-    requires room { at + 44000 ≤ length buf.old }
-    ensures text { take result buf.new ≡ take at buf.old ++ opening layout.now view.now (tracked_of board.now) place }
-    ensures near { result ≤ at + 44000 }
+    requires room { at + 50000 ≤ length buf.old }
+    ensures text { take result buf.new ≡ take at buf.old ++ opening layout.now view.now page.now (tracked_of board.now) place }
+    ensures near { result ≤ at + 50000 }
 {
     if column_of(view, place) == 0 {
-        let band = band_of(layout, view, place);
-        let at = add_band(buf, at, layout, number_of(view, &band));
+        let band = band_of(layout, view, &page.plan, place);
+        let at = add_band(buf, at, page.top, number_of(view, &band));
         let at = add_rows(buf, at, layout, &band, board);
-        add_lines(buf, at, height_of_band(layout) - (BAND_GAP + LINES_TOP))
+        let at = add_lines(buf, at, lines_height(&page.plan));
+        add_idle(buf, at, layout, &page.plan, board)
     } else {
         at
     }
@@ -306,19 +405,20 @@ fn add_closing_after(
     at: usize,
     layout: &Layout,
     view: &DrawnRange,
+    plan: &Plan,
     board: &TraceState,
     place: u64,
 ) -> usize
     requires lawful { IsLawful layout.now }
     requires few { place < 2 ^ 41 }
     requires room { at + 292300 ≤ length buf.old }
-    ensures text { take result buf.new ≡ take at buf.old ++ closing_after layout.now view.now (tracked_of board.now) place }
+    ensures text { take result buf.new ≡ take at buf.old ++ closing_after layout.now view.now plan.now (tracked_of board.now) place }
     ensures near { result ≤ at + 292300 }
 {
     if is_band_open(view, place + 1) {
         at
     } else {
-        let band = band_of(layout, view, place);
+        let band = band_of(layout, view, plan, place);
         add_closing(buf, at, layout, view, &band, board, place + 1)
     }
 }
@@ -456,14 +556,15 @@ fn add_event_shapes(
     requires few { place < 2 ^ 41 }
     requires room { at + 99300 ≤ length buf.old }
     ensures text { take result buf.new ≡ take at buf.old ++
-        event_shapes view.now.ordered (band_of layout.now view.now place) (tracked_of drawing.old.board) place e.now }
+        event_shapes view.now.ordered (band_of layout.now view.now drawing.old.page.plan place) (tracked_of drawing.old.board) place e.now }
     ensures kept { tracked_of drawing.new.board ≡ tracked_of drawing.old.board }
+    ensures page { drawing.new.page ≡ drawing.old.page }
     ensures shown { entry_of drawing.new.shown ≡ shown_by (origin_of place e.now) (marks e.now)
-        (has_text (arrows_at (band_of layout.now view.now place) (tracked_of drawing.old.board) (origin_of place e.now) (marks e.now)))
+        (has_arrows layout.now (tracked_of drawing.old.board) (origin_of place e.now) (marks e.now))
         (opened layout.now view.now (tracked_of drawing.old.board) (origin_of place e.now) (entry_of drawing.old.shown)) }
     ensures near { result ≤ at + 99300 }
 {
-    let band = band_of(layout, view, place);
+    let band = band_of(layout, view, &drawing.page.plan, place);
     let shown = marks_of(e.thread, &e.action);
     let by = Origin {
         thread: e.thread,
@@ -500,22 +601,22 @@ fn add_drawn(
     requires noted { IsNoted e.now }
     requires few { place < 2 ^ 41 }
     requires seen { in_view view.now place ≡ true }
-    requires room { at + 440000 ≤ length buf.old }
+    requires room { at + 446000 ≤ length buf.old }
     ensures text { take result buf.new ≡ take at buf.old ++
-        (opening layout.now view.now (tracked_of drawing.old.board) place
-        ++ event_shapes view.now.ordered (band_of layout.now view.now place) (tracked_of drawing.old.board) place e.now
-        ++ closing_after layout.now view.now (tracked_of drawing.new.board) place) }
+        (opening layout.now view.now drawing.old.page (tracked_of drawing.old.board) place
+        ++ event_shapes view.now.ordered (band_of layout.now view.now drawing.old.page.plan place) (tracked_of drawing.old.board) place e.now
+        ++ closing_after layout.now view.now drawing.old.page.plan (tracked_of drawing.new.board) place) }
     ensures kept { drawn_of drawing.new ≡ drawn_after layout.now view.now place e.now (drawn_of drawing.old) }
-    ensures near { result ≤ at + 440000 }
+    ensures near { result ≤ at + 446000 }
 {
-    let at = add_opening(buf, at, layout, view, &drawing.board, place);
+    let at = add_opening(buf, at, layout, view, &drawing.page, &drawing.board, place);
     let at = add_event_shapes(buf, at, layout, view, drawing, place, e);
     drawing.board.note(place, e);
-    add_closing_after(buf, at, layout, view, &drawing.board, place)
+    add_closing_after(buf, at, layout, view, &drawing.page.plan, &drawing.board, place)
 }
 
 /// Adds all that an event adds, and notes what it takes and gives back.
-#[tactic(auto, using(trace_board::proofs::Noting::noted), unfolding(crate::specs::Bands::step_text))]
+#[tactic(auto, unfolding(crate::specs::Bands::step_text))]
 pub fn add_step(
     buf: &mut [u8],
     at: usize,
@@ -526,12 +627,13 @@ pub fn add_step(
     e: &Event,
 ) -> usize
     requires lawful { IsLawful layout.now }
-    requires named { HasNames layout.now e.now }
+    requires noted { IsNoted e.now }
     requires few { place < 2 ^ 41 }
-    requires room { at + 440000 ≤ length buf.old }
-    ensures text { take result buf.new ≡ take at buf.old ++ step_text layout.now view.now (tracked_of drawing.old.board) place e.now }
+    requires room { at + 446000 ≤ length buf.old }
+    ensures text { take result buf.new ≡ take at buf.old ++
+        step_text layout.now view.now drawing.old.page (tracked_of drawing.old.board) place e.now }
     ensures kept { drawn_of drawing.new ≡ drawn_after layout.now view.now place e.now (drawn_of drawing.old) }
-    ensures near { result ≤ at + 440000 }
+    ensures near { result ≤ at + 446000 }
 {
     if is_in_view(view, place) {
         add_drawn(buf, at, layout, view, drawing, place, e)
@@ -566,6 +668,7 @@ pub fn add_failing(
     at: usize,
     layout: &Layout,
     view: &DrawnRange,
+    page: &Page,
     board: &TraceState,
     place: u64,
     e: &Event,
@@ -574,17 +677,18 @@ pub fn add_failing(
     requires lawful { IsLawful layout.now }
     requires few { place < 2 ^ 41 }
     requires room { at + 400000 ≤ length buf.old }
-    ensures text { take result buf.new ≡ take at buf.old ++ failing_text layout.now view.now (tracked_of board.now) place e.now why }
+    ensures text { take result buf.new ≡ take at buf.old
+        ++ failing_text layout.now view.now page.now (tracked_of board.now) place e.now why }
     ensures near { result ≤ at + 400000 }
 {
     if is_in_view(view, place) {
-        let band = band_of(layout, view, place);
+        let band = band_of(layout, view, &page.plan, place);
         let reach = Reach {
             band,
             to: place,
             ended: false,
         };
-        let at = add_opening(buf, at, layout, view, board, place);
+        let at = add_opening(buf, at, layout, view, page, board, place);
         let at = add_bars_on(buf, at, layout, &reach, board);
         let at = add_failed_shapes(buf, at, &band, place, e, why);
         add_band_end(buf, at, layout, view, &band, board, place + 1)

@@ -1,5 +1,5 @@
 //! The picture of a trace text.
-ghost use Rattle.std.specs.Prelude.{◌≡◌, ◌≢◌, ◌+◌, ◌-◌, ◌<◌, ◌≤◌, ◌^◌, ◌++◌, List, ℕ, [], length, take, Some, None, IfOk, OnOk, OnErr};
+ghost use Rattle.std.specs.Prelude.{◌≡◌, ◌≢◌, ◌+◌, ◌-◌, ◌<◌, ◌≤◌, ◌^◌, ◌++◌, ◌∷◌, List, ℕ, [], true, false, if◌then◌else◌, length, take, Some, None, IfOk, OnOk, OnErr};
 ghost use Rattle.std.specs.Io.KnownBytes.{Appends};
 ghost use Rattle.firefly_outside.specs.Causes.{HasCause, AppendsPrefix};
 ghost use Rattle.trace_core.specs.declared.reader_state.Phase.TheVariants as phase;
@@ -10,6 +10,9 @@ ghost use Rattle.trace_check.specs.declared.checker.Verdict.TheVariants as verdi
 ghost use Rattle.trace_check.specs.Verdicts.{IsJust, refusal};
 ghost use Rattle.larch_actions.specs.declared.event.Version.{Version};
 ghost use Rattle.larch_actions.specs.Layout.{IsLawful};
+ghost use Rattle.trace_board.specs.Tracked.{IsNoted};
+ghost use Rattle.trace_shapes.specs.Places.{in_view};
+ghost use Rattle.trace_picture.specs.Keeping.{turned, band_steps, drawn_over, fills, added_on, drawn_on, kept_on, event_text, event_drawn, event_kept};
 ghost use Rattle.larch_actions.specs.Actions.{at_first};
 ghost use Rattle.lock_order.specs.Kept.{IsKept};
 ghost use Rattle.trace_picture.specs.Shown.{drawn_of};
@@ -20,14 +23,17 @@ ghost use Rattle.trace_picture.specs.Drawn.{IsDrawn, IsCutOff};
 use crate::bands::add_step;
 use crate::endings::{end_failed, end_with};
 use crate::head::add_head;
+use crate::kept::Kept;
+use crate::plan::Page;
 use crate::rings::{end_legal, note_if};
 use crate::shown::Drawing;
 use firefly_outside::{Sink, SinkFault, Source, put_all};
-use larch_actions::{Layout, State, Totals};
+use larch_actions::{Event, Layout, State, Totals};
 use lock_order::LockGraph;
 use trace_check::{Summary, Verdict};
 use trace_core::{EventReader, TextFault};
 use trace_shapes::DrawnRange;
+use trace_shapes::view::{is_band_open, is_in_view};
 
 // The verdict on a text that can't be read.
 fn verdict_of(fault: TextFault) -> Verdict
@@ -75,6 +81,220 @@ fn make_room<O: Sink>(buf: &[u8], at: usize, out: &mut O) -> Result<usize, SinkF
     }
 }
 
+// Draws the first events that are kept, of which the first has this place.
+fn draw_events<O: Sink>(
+    buf: &mut [u8],
+    at: usize,
+    layout: &Layout,
+    view: &DrawnRange,
+    drawing: &mut Drawing,
+    kept: &Kept,
+    start: u64,
+    count: usize,
+    out: &mut O,
+) -> Result<usize, SinkFault>
+    requires lawful { IsLawful layout.now }
+    requires within { at ≤ length buf.old }
+    requires large { 500000 ≤ length buf.old }
+    requires few { start < 2 ^ 40 + 2 }
+    requires some { count ≤ length kept.now }
+    requires short { count ≤ 50 }
+    ensures ok { IfOk result (λ end. Flows (O.held out.old) (O.held out.new) (take at buf.old) (take end buf.new)
+        (band_steps layout.now view.now start (drawn_of drawing.old) (take count kept.now))) }
+    ensures within { IfOk result (λ end. end ≤ length buf.new) }
+    ensures kept { IfOk result (λ end. drawn_of drawing.new ≡
+        drawn_over layout.now view.now start (drawn_of drawing.old) (take count kept.now)) }
+    ensures err { OnErr result (AppendsPrefix (O.held out.old) (O.held out.new)
+        (take at buf.old ++ band_steps layout.now view.now start (drawn_of drawing.old) (take count kept.now))) }
+    ensures cause { HasCause (O.faults out.old) (O.faults out.new) result }
+{
+    let mut last = at;
+    for i in 0..count {
+        let free = match make_room(buf, last, out) {
+            Ok(free) => free,
+            Err(fault) => return Err(fault),
+        };
+        let e = kept.at(i);
+        last = add_step(buf, free, layout, view, drawing, start + i as u64, &e);
+    }
+    Ok(last)
+}
+
+// Plans the band of the events that are kept, and draws the first of them.
+fn draw_kept<O: Sink>(
+    buf: &mut [u8],
+    at: usize,
+    layout: &Layout,
+    view: &DrawnRange,
+    drawing: &mut Drawing,
+    kept: &Kept,
+    start: u64,
+    count: usize,
+    out: &mut O,
+) -> Result<usize, SinkFault>
+    requires lawful { IsLawful layout.now }
+    requires low { drawing.old.page.next < 2 ^ 59 }
+    requires within { at ≤ length buf.old }
+    requires large { 500000 ≤ length buf.old }
+    requires few { start < 2 ^ 40 + 2 }
+    requires some { count ≤ length kept.now }
+    requires short { count ≤ 50 }
+    ensures ok { IfOk result (λ end. Flows (O.held out.old) (O.held out.new) (take at buf.old) (take end buf.new)
+        (band_steps layout.now view.now start (turned layout.now kept.now (drawn_of drawing.old)) (take count kept.now))) }
+    ensures within { IfOk result (λ end. end ≤ length buf.new) }
+    ensures kept { IfOk result (λ end. drawn_of drawing.new ≡
+        drawn_over layout.now view.now start (turned layout.now kept.now (drawn_of drawing.old)) (take count kept.now)) }
+    ensures low { (turned layout.now kept.now (drawn_of drawing.old)).page.next ≤ drawing.old.page.next + 2 ^ 16 }
+    ensures err { OnErr result (AppendsPrefix (O.held out.old) (O.held out.new)
+        (take at buf.old ++ band_steps layout.now view.now start (turned layout.now kept.now (drawn_of drawing.old)) (take count kept.now))) }
+    ensures cause { HasCause (O.faults out.old) (O.faults out.new) result }
+{
+    turn(layout, drawing, kept);
+    draw_events(buf, at, layout, view, drawing, kept, start, count, out)
+}
+
+// Plans the band of the events that are kept, where there are any.
+fn turn(layout: &Layout, drawing: &mut Drawing, kept: &Kept)
+    requires lawful { IsLawful layout.now }
+    requires low { drawing.old.page.next < 2 ^ 59 }
+    ensures turned { drawn_of drawing.new ≡ turned layout.now kept.now (drawn_of drawing.old) }
+    ensures low { drawing.new.page.next ≤ drawing.old.page.next + 2 ^ 16 }
+{
+    if 0 < kept.len() {
+        drawing.page = Page::of_band(layout, &drawing.board, kept, drawing.page.next);
+    }
+}
+
+// Draws the band of the events that are kept, where the last of them, which has this place, fills it.
+fn draw_if_full<O: Sink>(
+    buf: &mut [u8],
+    at: usize,
+    layout: &Layout,
+    view: &DrawnRange,
+    drawing: &mut Drawing,
+    kept: &mut Kept,
+    place: u64,
+    out: &mut O,
+) -> Result<usize, SinkFault>
+    requires lawful { IsLawful layout.now }
+    requires low { drawing.old.page.next < 2 ^ 59 }
+    requires within { at ≤ length buf.old }
+    requires large { 500000 ≤ length buf.old }
+    requires few { place < 2 ^ 40 + 1 }
+    requires some { length kept.old ≤ place + 1 }
+    ensures ok { IfOk result (λ end. Flows (O.held out.old) (O.held out.new) (take at buf.old) (take end buf.new)
+        (added_on layout.now view.now place (drawn_of drawing.old) kept.old)) }
+    ensures within { IfOk result (λ end. end ≤ length buf.new) }
+    ensures drawn { IfOk result (λ end. drawn_of drawing.new ≡ drawn_on layout.now view.now place (drawn_of drawing.old) kept.old) }
+    ensures kept { IfOk result (λ end. kept.new ≡ kept_on view.now place kept.old) }
+    ensures low { fills view.now place ≡ true →
+        (turned layout.now kept.old (drawn_of drawing.old)).page.next ≤ drawing.old.page.next + 2 ^ 16 }
+    ensures err { OnErr result (AppendsPrefix (O.held out.old) (O.held out.new)
+        (take at buf.old ++ added_on layout.now view.now place (drawn_of drawing.old) kept.old)) }
+    ensures cause { HasCause (O.faults out.old) (O.faults out.new) result }
+{
+    if is_band_open(view, place + 1) {
+        return Ok(at);
+    }
+    let count = kept.len();
+    let start = place + 1 - count as u64;
+    match draw_kept(buf, at, layout, view, drawing, kept, start, count, out) {
+        Ok(end) => {
+            kept.clear();
+            Ok(end)
+        }
+        Err(fault) => Err(fault),
+    }
+}
+
+// Keeps the event, and draws its band where it fills this; out of view it is only noted.
+fn draw_on<O: Sink>(
+    buf: &mut [u8],
+    at: usize,
+    layout: &Layout,
+    view: &DrawnRange,
+    drawing: &mut Drawing,
+    kept: &mut Kept,
+    place: u64,
+    e: &Event,
+    out: &mut O,
+) -> Result<usize, SinkFault>
+    requires lawful { IsLawful layout.now }
+    requires noted { IsNoted e.now }
+    requires low { drawing.old.page.next < 2 ^ 59 }
+    requires within { at ≤ length buf.old }
+    requires large { 500000 ≤ length buf.old }
+    requires few { place < 2 ^ 40 + 1 }
+    requires some { length kept.old ≤ place }
+    requires free { length kept.old < 50 }
+    ensures ok { IfOk result (λ end. Flows (O.held out.old) (O.held out.new) (take at buf.old) (take end buf.new)
+        (event_text layout.now view.now place (drawn_of drawing.old) kept.old e.now)) }
+    ensures within { IfOk result (λ end. end ≤ length buf.new) }
+    ensures drawn { IfOk result (λ end. drawn_of drawing.new
+        ≡ event_drawn layout.now view.now place (drawn_of drawing.old) kept.old e.now) }
+    ensures kept { IfOk result (λ end. kept.new ≡ event_kept view.now place kept.old e.now) }
+    ensures low { in_view view.now place ≡ true → fills view.now place ≡ true →
+        (turned layout.now (kept.old ++ e.now ∷ []) (drawn_of drawing.old)).page.next ≤ drawing.old.page.next + 2 ^ 16 }
+    ensures err { OnErr result (AppendsPrefix (O.held out.old) (O.held out.new)
+        (take at buf.old ++ event_text layout.now view.now place (drawn_of drawing.old) kept.old e.now)) }
+    ensures cause { HasCause (O.faults out.old) (O.faults out.new) result }
+{
+    if is_in_view(view, place) {
+        kept.push(e);
+        draw_if_full(buf, at, layout, view, drawing, kept, place, out)
+    } else {
+        drawing.board.note(place, e);
+        Ok(at)
+    }
+}
+
+// Draws the first of the events that are kept, and makes room for the end of the picture.
+fn draw_rest<O: Sink>(
+    buf: &mut [u8],
+    at: usize,
+    layout: &Layout,
+    view: &DrawnRange,
+    drawing: &mut Drawing,
+    kept: &Kept,
+    start: u64,
+    count: usize,
+    out: &mut O,
+) -> Result<usize, SinkFault>
+    requires lawful { IsLawful layout.now }
+    requires low { drawing.old.page.next < 2 ^ 59 }
+    requires within { at ≤ length buf.old }
+    requires large { 500000 ≤ length buf.old }
+    requires few { start < 2 ^ 40 + 2 }
+    requires some { count ≤ length kept.now }
+    requires short { count ≤ 50 }
+    ensures ok { IfOk result (λ end. Flows (O.held out.old) (O.held out.new) (take at buf.old) (take end buf.new)
+        (band_steps layout.now view.now start (turned layout.now kept.now (drawn_of drawing.old)) (take count kept.now))) }
+    ensures room { IfOk result (λ end. end + 480000 ≤ length buf.new) }
+    ensures kept { IfOk result (λ end. drawn_of drawing.new ≡
+        drawn_over layout.now view.now start (turned layout.now kept.now (drawn_of drawing.old)) (take count kept.now)) }
+    ensures low { IfOk result (λ end. drawing.new.page.next < 2 ^ 60) }
+    ensures err { OnErr result (AppendsPrefix (O.held out.old) (O.held out.new)
+        (take at buf.old ++ band_steps layout.now view.now start (turned layout.now kept.now (drawn_of drawing.old)) (take count kept.now))) }
+    ensures cause { HasCause (O.faults out.old) (O.faults out.new) result }
+{
+    let end = match draw_kept(buf, at, layout, view, drawing, kept, start, count, out) {
+        Ok(end) => end,
+        Err(fault) => return Err(fault),
+    };
+    make_room(buf, end, out)
+}
+
+// Keeps the event that fails, where it is in view, so that its band is planned with it.
+fn keep_failing(view: &DrawnRange, kept: &mut Kept, place: u64, e: &Event)
+    requires noted { IsNoted e.now }
+    requires free { length kept.old < 50 }
+    ensures { kept.new ≡ (if in_view view.now place then kept.old ++ e.now ∷ [] else kept.old) }
+{
+    if is_in_view(view, place) {
+        kept.push(e);
+    }
+}
+
 // Ends the picture of an input that can't be read further.
 fn end_cut<O: Sink>(
     buf: &mut [u8],
@@ -86,6 +306,7 @@ fn end_cut<O: Sink>(
     out: &mut O,
 ) -> Result<(), SinkFault>
     requires lawful { IsLawful layout.now }
+    requires low { drawing.now.page.next < 2 ^ 60 }
     requires few { count < 2 ^ 42 }
     requires room { at + 440000 ≤ length buf.old }
     ensures ok { OnOk result (Appends (O.held out.old) (O.held out.new)
@@ -191,20 +412,46 @@ fn draw_all<I: Source, O: Sink>(
     let mut at = add_head(buf, 0, &layout);
     let mut state = State::new(layout);
     let mut drawing = Drawing::new();
+    let mut kept = Kept::new();
     let mut place = 0;
     loop {
-        let free = match make_room(buf, at, out) {
-            Ok(free) => free,
-            Err(fault) => return Err(fault),
-        };
         match reader.next_event() {
             Ok(Some(event)) => match state.apply(&event) {
                 Ok(()) => {
                     note_if(graph, view.ordered, &event, place);
-                    at = add_step(buf, free, &layout, view, &mut drawing, place, &event);
+                    at = match draw_on(
+                        buf,
+                        at,
+                        &layout,
+                        view,
+                        &mut drawing,
+                        &mut kept,
+                        place,
+                        &event,
+                        out,
+                    ) {
+                        Ok(end) => end,
+                        Err(fault) => return Err(fault),
+                    };
                     place += 1;
                 }
                 Err(why) => {
+                    let count = kept.len();
+                    keep_failing(view, &mut kept, place, &event);
+                    let free = match draw_rest(
+                        buf,
+                        at,
+                        &layout,
+                        view,
+                        &mut drawing,
+                        &kept,
+                        place - count as u64,
+                        count,
+                        out,
+                    ) {
+                        Ok(free) => free,
+                        Err(fault) => return Err(fault),
+                    };
                     return match end_failed(
                         buf,
                         free,
@@ -224,6 +471,21 @@ fn draw_all<I: Source, O: Sink>(
             Ok(None) => {
                 let totals = state.summary();
                 let left = summary_of(place, &totals);
+                let count = kept.len();
+                let free = match draw_rest(
+                    buf,
+                    at,
+                    &layout,
+                    view,
+                    &mut drawing,
+                    &kept,
+                    place - count as u64,
+                    count,
+                    out,
+                ) {
+                    Ok(free) => free,
+                    Err(fault) => return Err(fault),
+                };
                 return match end_legal(
                     buf, free, &layout, view, &drawing, graph, place, left, out,
                 ) {
@@ -232,6 +494,21 @@ fn draw_all<I: Source, O: Sink>(
                 };
             }
             Err(broken) => {
+                let count = kept.len();
+                let free = match draw_rest(
+                    buf,
+                    at,
+                    &layout,
+                    view,
+                    &mut drawing,
+                    &kept,
+                    place - count as u64,
+                    count,
+                    out,
+                ) {
+                    Ok(free) => free,
+                    Err(fault) => return Err(fault),
+                };
                 return match end_cut(buf, free, &layout, view, &drawing, place, out) {
                     Ok(()) => Ok(verdict_of(broken)),
                     Err(fault) => Err(fault),

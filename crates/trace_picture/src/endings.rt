@@ -2,10 +2,10 @@
 ghost use Rattle.std.specs.Prelude.{◌≡◌, ◌+◌, ◌<◌, ◌≤◌, ◌^◌, ◌++◌, length, take, codes, if◌then◌else◌, [], ℕ, List, OnOk, OnErr};
 ghost use Rattle.std.specs.Io.KnownBytes.{Appends};
 ghost use Rattle.firefly_outside.specs.Causes.{HasCause, AppendsPrefix};
-ghost use Rattle.larch_actions.specs.Layout.{IsLawful, HasNames};
+ghost use Rattle.larch_actions.specs.Layout.{IsLawful};
 ghost use Rattle.trace_board.specs.History.{entry_of};
 ghost use Rattle.trace_board.specs.Tracked.{tracked_of, IsNoted};
-ghost use Rattle.trace_shapes.specs.Places.{is_open, band_of, height_of};
+ghost use Rattle.trace_shapes.specs.Places.{is_open, band_of};
 ghost use Rattle.trace_shapes.specs.Shapes.{with_number};
 ghost use Rattle.trace_shapes.specs.Legend.{legend_text};
 ghost use Rattle.trace_picture.specs.Bands.{closing};
@@ -16,7 +16,7 @@ ghost use Rattle.trace_picture.specs.Shown.{drawn_of, drawn_failed};
 ghost use Rattle.trace_picture.specs.Picture.{moved_down, last_tags, end_text, closing_if, ending, failed_ending};
 ghost use Rattle.trace_picture.specs.Rings.{ringed_line};
 
-use crate::bands::{add_closing, add_failing, top_of};
+use crate::bands::{add_closing, add_failing};
 use crate::cycles::add_ringed_line;
 use crate::longest::{add_holds, height_of_holds};
 use crate::overview::{add_over_style, height_of_overview};
@@ -32,17 +32,7 @@ use trace_check::Summary;
 use trace_core::add;
 use trace_shapes::legend::{add_legend, height_of_legend};
 use trace_shapes::tags::add_with_number;
-use trace_shapes::view::{DrawnRange, band_of, count_bands, is_band_open};
-
-// How high the picture is, but for its last line.
-fn height(layout: &Layout, view: &DrawnRange, count: u64) -> u64
-    requires lawful { IsLawful layout.now }
-    requires few { count < 2 ^ 42 }
-    ensures height { result ≡ height_of layout.now view.now count }
-    ensures small { result < 2 ^ 60 }
-{
-    top_of(layout, count_bands(view, count))
-}
+use trace_shapes::view::{DrawnRange, Plan, band_of, is_band_open};
 
 /// Adds the end of the last band, where it is not full.
 #[tactic(auto, unfolding(crate::specs::Picture::closing_if))]
@@ -51,17 +41,18 @@ pub fn add_last_closing(
     at: usize,
     layout: &Layout,
     view: &DrawnRange,
+    plan: &Plan,
     board: &TraceState,
     count: u64,
 ) -> usize
     requires lawful { IsLawful layout.now }
     requires few { count < 2 ^ 42 }
     requires room { at + 330000 ≤ length buf.old }
-    ensures text { take result buf.new ≡ take at buf.old ++ closing_if layout.now view.now (tracked_of board.now) count }
+    ensures text { take result buf.new ≡ take at buf.old ++ closing_if layout.now view.now plan.now (tracked_of board.now) count }
     ensures near { result ≤ at + 330000 }
 {
     if is_band_open(view, count) {
-        let band = band_of(layout, view, count);
+        let band = band_of(layout, view, plan, count);
         add_closing(buf, at, layout, view, &band, board, count)
     } else {
         at
@@ -86,17 +77,19 @@ fn add_last_tags(
     view: &DrawnRange,
     shown: &Table,
     count: u64,
+    low: u64,
     high: u64,
 ) -> usize
     requires lawful { IsLawful layout.now }
     requires few { count < 2 ^ 42 }
-    requires low { high < 2 ^ 60 }
+    requires low { low < 2 ^ 60 }
+    requires high { high < 2 ^ 60 }
     requires room { at + 310 ≤ length buf.old }
-    ensures text { take result buf.new ≡ take at buf.old ++ last_tags layout.now view.now (entry_of shown.now) count high }
+    ensures text { take result buf.new ≡ take at buf.old ++ last_tags layout.now view.now (entry_of shown.now) count low high }
     ensures near { result ≤ at + 310 }
 {
     let moved = height_above(layout, view, shown, count);
-    let whole = height(layout, view, count) + 14 + height_of_holds(layout) + moved + high;
+    let whole = low + 14 + height_of_holds(layout) + moved + high;
     let at = add_with_number(buf, at, b"<style>:root{height:", whole);
     let at = add_with_number(buf, at, b"px}.s{transform:translate(0,", high);
     let at = add_with_number(buf, at, b"px)}.w{transform:translate(0,", moved);
@@ -124,13 +117,14 @@ fn add_lines(
     count: u64,
 ) -> usize
     requires lawful { IsLawful layout.now }
+    requires low { drawing.now.page.next < 2 ^ 60 }
     requires few { count < 2 ^ 42 }
     requires room { at + 45600 ≤ length buf.old }
     ensures text { take result buf.new ≡ take at buf.old ++ (holds_text layout.now.mutexes (tracked_of drawing.now.board) count
-        (height_of layout.now view.now count) ++ (codes "</g>\n" ++ legend_text (entry_of drawing.now.shown) ++ codes "</g>\n")) }
+        drawing.now.page.next ++ (codes "</g>\n" ++ legend_text (entry_of drawing.now.shown) ++ codes "</g>\n")) }
     ensures near { result ≤ at + 45600 }
 {
-    let low = height(layout, view, count);
+    let low = drawing.page.next;
     let at = add_holds(buf, at, layout.mutexes, &drawing.board, count, low);
     add_legend_after(buf, at, &drawing.shown)
 }
@@ -148,6 +142,7 @@ fn add_end(
     left: Option<Summary>,
 ) -> usize
     requires lawful { IsLawful layout.now }
+    requires low { drawing.now.page.next < 2 ^ 60 }
     requires few { count < 2 ^ 42 }
     requires short { length words.now ≤ 120 }
     requires room { at + 46500 ≤ length buf.old }
@@ -157,7 +152,16 @@ fn add_end(
 {
     let at = add_lines(buf, at, layout, view, drawing, count);
     let at = add_counted_line(buf, at, view, count, words, left);
-    add_last_tags(buf, at, layout, view, &drawing.shown, count, ONE_LINE)
+    add_last_tags(
+        buf,
+        at,
+        layout,
+        view,
+        &drawing.shown,
+        count,
+        drawing.page.next,
+        ONE_LINE,
+    )
 }
 
 /// The same with a cycle in words.
@@ -173,6 +177,7 @@ pub fn add_ringed_end(
     cycle: &Cycle,
 ) -> usize
     requires lawful { IsLawful layout.now }
+    requires low { drawing.now.page.next < 2 ^ 60 }
     requires few { count < 2 ^ 42 }
     requires room { at + 62000 ≤ length buf.old }
     ensures text { take result buf.new ≡ take at buf.old ++ end_text layout.now view.now (drawn_of drawing.now) count TWO_LINES
@@ -181,7 +186,16 @@ pub fn add_ringed_end(
 {
     let at = add_lines(buf, at, layout, view, drawing, count);
     let at = add_ringed_line(buf, at, view, count, left, cycle);
-    add_last_tags(buf, at, layout, view, &drawing.shown, count, TWO_LINES)
+    add_last_tags(
+        buf,
+        at,
+        layout,
+        view,
+        &drawing.shown,
+        count,
+        drawing.page.next,
+        TWO_LINES,
+    )
 }
 
 /// Adds the end of a picture of so many events, with these words at its top.
@@ -196,13 +210,22 @@ pub fn add_ending(
     left: Option<Summary>,
 ) -> usize
     requires lawful { IsLawful layout.now }
+    requires low { drawing.now.page.next < 2 ^ 60 }
     requires few { count < 2 ^ 42 }
     requires short { length words.now ≤ 120 }
     requires room { at + 379000 ≤ length buf.old }
     ensures text { take result buf.new ≡ take at buf.old ++ ending layout.now view.now (drawn_of drawing.now) count words.now left }
     ensures near { result ≤ at + 379000 }
 {
-    let at = add_last_closing(buf, at, layout, view, &drawing.board, count);
+    let at = add_last_closing(
+        buf,
+        at,
+        layout,
+        view,
+        &drawing.page.plan,
+        &drawing.board,
+        count,
+    );
     add_end(buf, at, layout, view, drawing, count, words, left)
 }
 
@@ -219,6 +242,7 @@ fn add_failed_end(
     why: Broken,
 ) -> usize
     requires lawful { IsLawful layout.now }
+    requires low { drawing.now.page.next < 2 ^ 60 }
     requires noted { IsNoted e.now }
     requires few { place < 2 ^ 41 }
     requires room { at + 77100 ≤ length buf.old }
@@ -235,12 +259,12 @@ fn add_failed_end(
         view,
         &drawing.shown,
         place + 1,
+        drawing.page.next,
         THREE_LINES,
     )
 }
 
 /// Adds the event that fails, and the end of the picture.
-#[tactic(auto, using(trace_board::proofs::Noting::noted))]
 pub fn add_failed_ending(
     buf: &mut [u8],
     at: usize,
@@ -252,13 +276,24 @@ pub fn add_failed_ending(
     why: Broken,
 ) -> usize
     requires lawful { IsLawful layout.now }
-    requires named { HasNames layout.now e.now }
+    requires low { drawing.old.page.next < 2 ^ 60 }
+    requires noted { IsNoted e.now }
     requires few { place < 2 ^ 41 }
     requires room { at + 479000 ≤ length buf.old }
     ensures text { take result buf.new ≡ take at buf.old ++ failed_ending layout.now view.now (drawn_of drawing.old) place e.now why }
     ensures near { result ≤ at + 479000 }
 {
-    let at = add_failing(buf, at, layout, view, &drawing.board, place, e, why);
+    let at = add_failing(
+        buf,
+        at,
+        layout,
+        view,
+        &drawing.page,
+        &drawing.board,
+        place,
+        e,
+        why,
+    );
     let by = Origin {
         thread: e.thread,
         object: marks_of(e.thread, &e.action).object,
@@ -281,6 +316,7 @@ pub fn end_with<O: Sink>(
     out: &mut O,
 ) -> Result<(), SinkFault>
     requires lawful { IsLawful layout.now }
+    requires low { drawing.now.page.next < 2 ^ 60 }
     requires few { count < 2 ^ 42 }
     requires short { length words.now ≤ 120 }
     requires room { at + 379000 ≤ length buf.old }
@@ -307,7 +343,8 @@ pub fn end_failed<O: Sink>(
     out: &mut O,
 ) -> Result<(), SinkFault>
     requires lawful { IsLawful layout.now }
-    requires named { HasNames layout.now e.now }
+    requires low { drawing.old.page.next < 2 ^ 60 }
+    requires noted { IsNoted e.now }
     requires few { place < 2 ^ 41 }
     requires room { at + 479000 ≤ length buf.old }
     ensures ok { OnOk result (Appends (O.held out.old) (O.held out.new)

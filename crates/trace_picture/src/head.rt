@@ -23,7 +23,7 @@ fn add_style(buf: &mut [u8], at: usize) -> usize
     let at = add(
         buf,
         at,
-        b"text{fill:#1f2328}.r{fill:#f3f4f6}.p,.z{fill:#fff}.l{stroke:#d8dbe0}.n{fill:#6e7781;font-size:10px;text-anchor:middle}.y,.i{font-weight:bold}.i{text-anchor:middle;stroke:none}.s1,.x,.hx{font-size:10px}.s2{font-size:9px;text-anchor:end}.s3{font-size:8px;text-anchor:end}.hx{paint-order:stroke;stroke:#fff;stroke-width:3px}\n",
+        b"text{fill:#1f2328}.r{fill:#f3f4f6}.p,.z{fill:#fff}.l{stroke:#d8dbe0}.n{fill:#6e7781;font-size:10px;text-anchor:middle}.c{fill:#6e7781;font-size:10px}.y,.i{font-weight:bold}.i{text-anchor:middle;stroke:none}.s1,.x,.hx{font-size:10px}.s2{font-size:9px;text-anchor:end}.s3{font-size:8px;text-anchor:end}.hx{paint-order:stroke;stroke:#fff;stroke-width:3px}\n",
     );
     let at = add(
         buf,
@@ -47,7 +47,7 @@ fn add_pattern(buf: &mut [u8], at: usize) -> usize
     let at = add(
         buf,
         at,
-        b".u{display:none}.e{fill:#fff;stroke:#57606a;stroke-dasharray:3 2}.f{fill:#cf222e;stroke:#cf222e}.f+.i,.ft,.fe{fill:#fff}.ft,.fe{font-weight:bold;filter:url(#t)}.fe{text-anchor:end}.fl{stroke:#cf222e;stroke-width:2}.u0{fill:#57606a}.u1{fill:#c9ced5}.a{fill:none;stroke:#a02c6b;stroke-width:1.6;marker-end:url(#a)}.q{fill:none;stroke:#fff;stroke-width:4}.hd{font-size:13px}.ok,.no,.at{font-weight:bold}.ok{fill:#1a7f37}.no{fill:#cf222e}.at{fill:#9a6700}\n@media (prefers-color-scheme:dark){text{fill:#e6edf3}.p,.z{fill:#0d1117}.r{fill:#1c2128}.n{fill:#9198a1}.l{stroke:#30363d}.q{stroke:#0d1117}.a{stroke:#ff8fc7}.ar{fill:#ff8fc7}.i,.s1,.s2,.s3,.x{fill:#1f2328}.m1+.x,.f+.i,.ft,.fe{fill:#fff}.hx{fill:#e6edf3;stroke:#0d1117}.hb{fill:#22272e}.d{fill:#5c4f17}.u0{fill:#adb5bd}.u1{fill:#3d444d}.ok{fill:#3fb950}.no{fill:#ff7b72}.at{fill:#e3b341}}\n</style>\n",
+        b".u{display:none}.e{fill:#fff;stroke:#57606a;stroke-dasharray:3 2}.f{fill:#cf222e;stroke:#cf222e}.f+.i,.ft,.fe{fill:#fff}.ft,.fe{font-weight:bold;filter:url(#t)}.fe{text-anchor:end}.fl{stroke:#cf222e;stroke-width:2}.u0{fill:#57606a}.u1{fill:#c9ced5}.a{fill:none;stroke:#a02c6b;stroke-width:1.6;marker-end:url(#a)}.q{fill:none;stroke:#fff;stroke-width:4}.hd{font-size:13px}.ok,.no,.at{font-weight:bold}.ok{fill:#1a7f37}.no{fill:#cf222e}.at{fill:#9a6700}\n@media (prefers-color-scheme:dark){text{fill:#e6edf3}.p,.z{fill:#0d1117}.r{fill:#1c2128}.n,.c{fill:#9198a1}.l{stroke:#30363d}.q{stroke:#0d1117}.a{stroke:#ff8fc7}.ar{fill:#ff8fc7}.i,.s1,.s2,.s3,.x{fill:#1f2328}.m1+.x,.f+.i,.ft,.fe{fill:#fff}.hx{fill:#e6edf3;stroke:#0d1117}.hb{fill:#22272e}.d{fill:#5c4f17}.u0{fill:#adb5bd}.u1{fill:#3d444d}.ok{fill:#3fb950}.no{fill:#ff7b72}.at{fill:#e3b341}}\n</style>\n",
     );
     let at = add(
         buf,

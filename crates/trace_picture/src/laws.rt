@@ -1,5 +1,5 @@
 //! Laws of the picture. What a bar, an arrow and a longest hold say stands in the laws of trace_board.
-ghost use Rattle.trace_picture.specs.Seen.{MarksDiffer, MarksAreExplained, DrawnAreExplained, EventsAreMarked, RingsAreNamed, BarsAreDrawn, TakingsAreDrawn, RowsStand, RowsBegin, RowsEnd, JoinsAreDrawn, ForksAreDrawn, BirthsAreDrawn, SignalsAreDrawn, WaitsAreDrawn, HoldsAreReported};
+ghost use Rattle.trace_picture.specs.Seen.{MarksDiffer, MarksAreExplained, DrawnAreExplained, EventsAreMarked, RingsAreNamed, BarsAreDrawn, TakingsAreDrawn, RowsStand, IdleAreNamed, RowsBegin, RowsEnd, JoinsAreDrawn, ForksAreDrawn, BirthsAreDrawn, SignalsAreDrawn, WaitsAreDrawn, HoldsAreReported};
 
 /// Actions of different kinds have marks of different names, in which different letters are seen.
 pub fn marks_differ()
@@ -36,9 +36,14 @@ pub fn takings_are_drawn()
     ensures { TakingsAreDrawn }
 {}
 
-/// In version two a band begins with the rows of the threads that live.
+/// In version two a band begins with the rows of the threads that live, but for those without one by its plan.
 pub fn rows_stand()
     ensures { RowsStand }
+{}
+
+/// Each of the first forty of those is named there.
+pub fn idle_are_named()
+    ensures { IdleAreNamed }
 {}
 
 /// A fork begins the row of its thread in its own column.

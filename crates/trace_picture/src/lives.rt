@@ -1,41 +1,20 @@
 //! The rows of threads that begin and end, written into a buffer after its first `at` bytes. Each call returns where it ended.
 ghost use Rattle.std.specs.Prelude.{◌≡◌, ◌+◌, ◌-◌, ◌*◌, ◌<◌, ◌≤◌, ◌^◌, ◌++◌, length, take, codes};
 ghost use Rattle.trace_board.specs.Tracked.{tracked_of};
-ghost use Rattle.trace_board.specs.Laws.{is_live};
 ghost use Rattle.larch_actions.specs.Layout.{IsLawful};
 ghost use Rattle.trace_shapes.specs.Shapes.{each_below};
-ghost use Rattle.trace_picture.specs.Lives.{has_row, row_if, row_box, row_from, row_until, life_row};
+ghost use Rattle.trace_picture.specs.Lives.{row_if, row_box, row_from, row_until, life_row};
 
-use larch_actions::{Layout, Life, Version};
+use crate::plan::{is_absent, stands};
+use larch_actions::Layout;
 use trace_board::board::TraceState;
 use trace_board::history::Change;
 use trace_core::add;
 use trace_shapes::geometry::{COLUMN, ROW_RIGHT};
-use trace_shapes::shapes::{add_row, add_row_name, event_x, row_height, row_y};
+use trace_shapes::places::{event_x, kind_in, row_height, row_y};
+use trace_shapes::shapes::{add_row, add_row_name};
 use trace_shapes::tags::{add_place, add_with_number};
 use trace_shapes::view::Band;
-
-// Whether this is the life of one that lives.
-fn lives(life: Life) -> bool
-    ensures { result ≡ is_live life }
-{
-    match life {
-        Life::Live => true,
-        Life::Unborn => false,
-        Life::Ended => false,
-    }
-}
-
-// Whether the thread has a row at the start of a band.
-fn stands(version: Version, board: &TraceState, t: u32) -> bool
-    requires { t < 256 }
-    ensures { result ≡ has_row version (tracked_of board.now) t }
-{
-    match version {
-        Version::One => true,
-        Version::Two => lives(board.life(Version::Two, t)),
-    }
-}
 
 // Adds the row of the thread, where it has one.
 fn add_row_if(
@@ -51,7 +30,8 @@ fn add_row_if(
     ensures text { take result buf.new ≡ take at buf.old ++ row_if layout.now.version band.now (tracked_of board.now) t }
     ensures near { result ≤ at + 170 }
 {
-    if stands(layout.version, board, t) {
+    let absent = is_absent(kind_in(band, t));
+    if stands(layout.version, board, t) && !absent {
         add_row(buf, at, band, t)
     } else {
         at
@@ -87,7 +67,7 @@ fn add_row_box(buf: &mut [u8], at: usize, band: &Band, x: u64, t: u32) -> usize
     ensures text { take result buf.new ≡ take at buf.old ++ row_box band.now x t }
     ensures near { result ≤ at + 130 }
 {
-    let height = row_height(band.lanes);
+    let height = row_height(band, t);
     let at = add_with_number(buf, at, b"' height='", height);
     let at = add_with_number(buf, at, b"' width='", ROW_RIGHT.saturating_sub(x));
     add_place(buf, at, x, row_y(band, t))

@@ -69,12 +69,21 @@ fn add_ringed_ending(
     left: Summary,
 ) -> usize
     requires lawful { IsLawful layout.now }
+    requires low { drawing.now.page.next < 2 ^ 60 }
     requires few { count < 2 ^ 42 }
     requires room { at + 440000 ≤ length buf.old }
     ensures text { take result buf.new ≡ take at buf.old ++ ringed_ending layout.now view.now (drawn_of drawing.now) count left cycle.now }
     ensures near { result ≤ at + 440000 }
 {
-    let at = add_last_closing(buf, at, layout, view, &drawing.board, count);
+    let at = add_last_closing(
+        buf,
+        at,
+        layout,
+        view,
+        &drawing.page.plan,
+        &drawing.board,
+        count,
+    );
     let at = add_rings(buf, at, cycle);
     add_ringed_end(buf, at, layout, view, drawing, count, left, cycle)
 }
@@ -92,6 +101,7 @@ fn end_ringed<O: Sink>(
     out: &mut O,
 ) -> Result<(), SinkFault>
     requires lawful { IsLawful layout.now }
+    requires low { drawing.now.page.next < 2 ^ 60 }
     requires few { count < 2 ^ 42 }
     requires room { at + 440000 ≤ length buf.old }
     ensures ok { OnOk result (Appends (O.held out.old) (O.held out.new)
@@ -117,6 +127,7 @@ fn end_ordered<O: Sink>(
     out: &mut O,
 ) -> Result<(), SinkFault>
     requires lawful { IsLawful layout.now }
+    requires low { drawing.now.page.next < 2 ^ 60 }
     requires few { count < 2 ^ 42 }
     requires noted { AreNoted graph.now count }
     requires room { at + 440000 ≤ length buf.old }
@@ -154,6 +165,7 @@ pub fn end_legal<O: Sink>(
     out: &mut O,
 ) -> Result<(), SinkFault>
     requires lawful { IsLawful layout.now }
+    requires low { drawing.now.page.next < 2 ^ 60 }
     requires few { count < 2 ^ 42 }
     requires noted { view.now.ordered ≡ true → AreNoted graph.now count }
     requires room { at + 440000 ≤ length buf.old }

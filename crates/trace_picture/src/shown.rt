@@ -7,6 +7,7 @@ ghost use Rattle.trace_board.specs.Causes.{cause_of};
 ghost use Rattle.trace_board.specs.Tracked.{tracked_of, came};
 ghost use Rattle.trace_picture.specs.Shown.{drawn_of, nothing_drawn, ends, frees, shown_if, going_on, opened, lets_go_on, shown_by, shown_failed};
 
+use crate::plan::Page;
 use larch_actions::Layout;
 use trace_board::board::{Reason, TraceState};
 use trace_board::causes::CauseChange;
@@ -16,11 +17,12 @@ use trace_shapes::legend::{ARROWS, HOLDS, LET_GO, TAKINGS, WAITS, look_of};
 use trace_shapes::shapes::begins;
 use trace_shapes::view::{DrawnRange, column_of, is_in_view};
 
-/// What is kept of the events before, and what was drawn.
+/// What is kept of the events before, what was drawn, and the band under way.
 #[derive(Drop)]
 pub struct Drawing {
     pub board: TraceState,
     pub shown: Table,
+    pub page: Page,
 }
 
 impl Drawing {
@@ -30,7 +32,8 @@ impl Drawing {
     {
         let board = TraceState::new();
         let shown = Table::new();
-        Drawing { board, shown }
+        let page = Page::none();
+        Drawing { board, shown, page }
     }
 }
 

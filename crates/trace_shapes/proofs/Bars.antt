@@ -9,9 +9,9 @@ use Rattle.trace_board.specs.Marks.{marks}
 use Rattle.trace_shapes.specs.declared.view.Band.{Band}
 use Rattle.trace_shapes.specs.declared.view.Reach.{Reach}
 use Rattle.trace_shapes.specs.declared.view.Strip.{Strip}
-use Rattle.trace_shapes.specs.declared.geometry.TheConstants.{LETTER_LINE, WAIT_TOP, WAIT_LINE, NAME_LEFT, NAME_LINE}
-use Rattle.trace_shapes.specs.Places.{event_x, mark_y, row_y, lane_y, bar_x, bar_width, wait_x, wait_end}
-use Rattle.trace_shapes.specs.Shapes.{with_number, box_text, place_text, span_text, given_text, bar_box, bar_name, bar_text, taken_text, wait_name, wait_part, let_go_x, out_text, digits_of, number_left, object_text, failed_mark, line_of, clause_word}
+use Rattle.trace_shapes.specs.declared.geometry.TheConstants.{LETTER_LINE, NAME_LEFT, NAME_LINE}
+use Rattle.trace_shapes.specs.Places.{kind_in, wait_line, event_x, mark_y, row_y, lane_y, bar_x, bar_width, wait_x, wait_end}
+use Rattle.trace_shapes.specs.Shapes.{with_number, box_text, place_text, span_text, given_text, bar_box, bar_name, bar_text, taken_text, wait_y, wait_name, wait_tag, wait_part, let_go_x, out_text, digits_of, number_left, object_text, failed_mark, line_of, clause_word}
 use Rattle.trace_shapes.proofs.Added.{added_four, added_five, added_six}
 
 pub added_bar_box : (r : Reach) (s : Strip) (x y w : ℕ) (old a : List ℕ) → x ≡ bar_x r s.since → y ≡ lane_y r.band s.since.thread.0 s.lane → w ≡ bar_width r s.since
@@ -44,12 +44,12 @@ added_taken r x s old a b c d e same one two three four five =
     let shape : ℕ → List ℕ = λ k. codes "<rect class='e" ++ bar_box r x ++ with_number (codes "' height='12' rx='2'><title>s") k ++ span_text (codes " taken by t") r x.since ++ bar_name (codes "'>s") r x in
     added_five old a b c _ _ _ _ _ one two three d e four five ∙ (λ i. old ++ shape (same i))
 
-pub added_wait_part : (tag : List ℕ) (r : Reach) (o : Origin) (x end y w k : ℕ) (old a b c d : List ℕ) → y ≡ row_y r.band o.thread.0 + WAIT_TOP → w ≡ end - x → k ≡ o.object
-    → a ≡ old ++ tag → b ≡ a ++ box_text x y w → c ≡ b ++ with_number (codes "' height='9'><title>wait on c") k → d ≡ c ++ span_text (codes " of t") r o
+pub added_wait_part : (tag : List ℕ) (r : Reach) (o : Origin) (x end y w k : ℕ) (high old a b c d : List ℕ) → y ≡ wait_y r o → w ≡ end - x → high ≡ wait_tag (kind_in r.band o.thread.0) → k ≡ o.object
+    → a ≡ old ++ tag → b ≡ a ++ box_text x y w → c ≡ b ++ with_number high k → d ≡ c ++ span_text (codes " of t") r o
     → d ≡ old ++ wait_part tag r o x end
 unfolding wait_part
-added_wait_part tag r o x end y w k old a b c d same_y same_w same one two three four =
-    added_four old a b c _ _ _ _ (codes "") one two three d four ∙ (λ i. old ++ (tag ++ box_text x (same_y i) (same_w i) ++ with_number (codes "' height='9'><title>wait on c") (same i) ++ span_text (codes " of t") r o))
+added_wait_part tag r o x end y w k high old a b c d same_y same_w same_high same one two three four =
+    added_four old a b c _ _ _ _ (codes "") one two three d four ∙ (λ i. old ++ (tag ++ box_text x (same_y i) (same_w i) ++ with_number (same_high i) (same i) ++ span_text (codes " of t") r o))
 
 pub added_out : (r : Reach) (o p : Origin) (x end t : ℕ) (old a b c d : List ℕ) → x ≡ let_go_x r o p → end ≡ wait_end r → t ≡ p.thread.0
     → a ≡ old ++ wait_part (codes "<rect class='d") r o x end → b ≡ a ++ with_number (codes ", let go on by event ") p.place → c ≡ b ++ with_number (codes " of t") t → d ≡ c ++ codes "</title></rect>\n"
@@ -59,12 +59,12 @@ added_out r o p x end t old a b c d same_x same_end same one two three four =
     added_four old a b c _ _ _ _ (codes "") one two three d four
     ∙ (λ i. old ++ (wait_part (codes "<rect class='d") r o (same_x i) (same_end i) ++ with_number (codes ", let go on by event ") p.place ++ with_number (codes " of t") (same i) ++ codes "</title></rect>\n"))
 
-pub added_wait_name : (r : Reach) (o : Origin) (x y k : ℕ) (old a b c d : List ℕ) → x ≡ wait_x r o → y ≡ row_y r.band o.thread.0 → k ≡ o.object
-    → a ≡ old ++ codes "<text class='hx" → b ≡ a ++ place_text (x + NAME_LEFT) (y + WAIT_TOP + WAIT_LINE) → c ≡ b ++ with_number (codes "'>c") k → d ≡ c ++ codes "</text>\n"
+pub added_wait_name : (r : Reach) (o : Origin) (x y k : ℕ) (old a b c d : List ℕ) → x ≡ wait_x r o → y ≡ wait_y r o + wait_line (kind_in r.band o.thread.0) → k ≡ o.object
+    → a ≡ old ++ codes "<text class='hx" → b ≡ a ++ place_text (x + NAME_LEFT) y → c ≡ b ++ with_number (codes "'>c") k → d ≡ c ++ codes "</text>\n"
     → d ≡ old ++ wait_name r o
 unfolding wait_name
 added_wait_name r o x y k old a b c d same_x same_y same one two three four =
-    let shape : ℕ → ℕ → ℕ → List ℕ = λ u v z. codes "<text class='hx" ++ place_text (u + NAME_LEFT) (v + WAIT_TOP + WAIT_LINE) ++ with_number (codes "'>c") z ++ codes "</text>\n" in
+    let shape : ℕ → ℕ → ℕ → List ℕ = λ u v z. codes "<text class='hx" ++ place_text (u + NAME_LEFT) v ++ with_number (codes "'>c") z ++ codes "</text>\n" in
     added_four old a b c _ _ _ _ (codes "") one two three d four ∙ (λ i. old ++ shape (same_x i) (same_y i) (same i))
 
 pub added_object : (v : Band) (n : ℕ) (e : Event) (g x l y k : ℕ) (m : Effects) (old a b c d : List ℕ) → g ≡ digits_of m.object → x ≡ event_x v n → l ≡ number_left m.object → y ≡ row_y v e.thread.0 → m ≡ marks e → k ≡ m.object

@@ -5,15 +5,16 @@ use Rattle.larch_actions.specs.Sets.{in_set}
 use Rattle.trace_board.specs.declared.history.Origin.{Origin}
 use Rattle.trace_board.specs.declared.causes.Cause.{Cause}
 use Rattle.trace_board.specs.declared.causes.Cause.TheVariants.{Never, Awaited, By}
+use Rattle.trace_shapes.specs.declared.view.RowKind.{RowKind}
 use Rattle.trace_shapes.specs.declared.view.Band.{Band}
 use Rattle.trace_shapes.specs.declared.view.Link.{Link}
 use Rattle.trace_shapes.specs.declared.view.Freeing.{Freeing}
 use Rattle.trace_shapes.specs.declared.view.Shape.{Shape}
-use Rattle.trace_shapes.specs.declared.view.Shape.TheVariants.{Straight, Bent, Joined}
+use Rattle.trace_shapes.specs.declared.view.Shape.TheVariants.{Straight, Bent, FromEnd}
 use Rattle.trace_shapes.specs.declared.view.Turn.{Turn}
 use Rattle.trace_shapes.specs.declared.view.Way.{Way}
-use Rattle.trace_shapes.specs.declared.geometry.TheConstants.{COLUMN, MIDDLE, MARK_HEIGHT, MARK_MIDDLE, HEAD_ABOVE, HEAD_BELOW, LEVEL, EARLIER, HOOK}
-use Rattle.trace_shapes.specs.Places.{event_x, row_y, mark_y}
+use Rattle.trace_shapes.specs.declared.geometry.TheConstants.{COLUMN, MIDDLE, MARK_HEIGHT, MARK_MIDDLE, HEAD_ABOVE, HEAD_BELOW, THIN_HEAD_ABOVE, THIN_HEAD_BELOW, LEVEL, EARLIER, HOOK}
+use Rattle.trace_shapes.specs.Places.{is_thin, kind_in, event_x, row_y, mark_y}
 use Rattle.trace_shapes.specs.Shapes.{with_number}
 
 -- the arrow at the event n to the thread t in this band, from the event o
@@ -46,13 +47,20 @@ forks t = with_number (codes " forks t") t ++ codes "</title></path>\n"
 abbrev pub leaves : Link → ℕ
 leaves k = if nat_lt k.from.thread.0 k.to then mark_y k.band k.from.thread.0 + MARK_HEIGHT else mark_y k.band k.from.thread.0
 
+-- from the upper edge of a row to the head of an arrow from above and from below
+abbrev pub head_above : RowKind → ℕ
+head_above k = if is_thin k then THIN_HEAD_ABOVE else HEAD_ABOVE
+
+abbrev pub head_below : RowKind → ℕ
+head_below k = if is_thin k then THIN_HEAD_BELOW else HEAD_BELOW
+
 -- straight from its event into the row of the thread
 abbrev pub straight : Link → Way
 straight k = record {
   x = event_x k.band (min k.from.place k.place) + MIDDLE;
   y = leaves k;
   turn = None;
-  end = if nat_lt k.from.thread.0 k.to then row_y k.band k.to + HEAD_ABOVE else row_y k.band k.to + HEAD_BELOW;
+  end = if nat_lt k.from.thread.0 k.to then row_y k.band k.to + head_above (kind_in k.band k.to) else row_y k.band k.to + head_below (kind_in k.band k.to);
 }
 
 -- from its event along the row of the thread, into the mark there
@@ -65,8 +73,8 @@ bent k = record {
 }
 
 -- from the end of a thread along its row, into the mark of the join
-abbrev pub joined : Link → Way
-joined k = record {
+abbrev pub from_end : Link → Way
+from_end k = record {
   x = event_x k.band (min k.from.place k.place) + (COLUMN - 1);
   y = mark_y k.band k.from.thread.0 + MARK_MIDDLE;
   turn = Some (record { level = mark_y k.band k.from.thread.0 + MARK_MIDDLE; across = event_x k.band k.place + MIDDLE });
@@ -86,7 +94,7 @@ hook k = record {
 abbrev pub way_of : Shape → Link → Way
 way_of Straight k = straight k
 way_of Bent k = bent k
-way_of Joined k = joined k
+way_of FromEnd k = from_end k
 
 abbrev pub way_or_hook : Shape → Link → Way
 way_or_hook shape k = if nat_le k.band.start k.from.place then way_of shape k else hook k

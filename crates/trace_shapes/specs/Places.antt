@@ -1,11 +1,16 @@
 -- Where things stand in the picture: a band of columns, one an event, with a row a thread, in points from the upper left.
-use Rattle.std.specs.Prelude.{ℕ, ◌+◌, ◌-◌, ◌*◌, ◌/◌, ◌%◌, ◌==◌, ◌&&◌, not, nat_lt, nat_le, Bool, min, max, if◌then◌else◌}
+use Rattle.std.specs.Prelude.{ℕ, ◌+◌, ◌-◌, ◌*◌, ◌/◌, ◌%◌, ◌==◌, ◌&&◌, not, nat_lt, nat_le, Bool, true, false, min, max, if◌then◌else◌}
 use Rattle.larch_actions.specs.declared.event.Layout.{Layout}
+use Rattle.larch_actions.specs.State.{shown_at}
 use Rattle.trace_board.specs.declared.history.Origin.{Origin}
 use Rattle.trace_shapes.specs.declared.view.DrawnRange.{DrawnRange}
+use Rattle.trace_shapes.specs.declared.view.RowKind.{RowKind}
+use Rattle.trace_shapes.specs.declared.view.RowKind.TheVariants.{Busy, Waiting, Still, Absent}
+use Rattle.trace_shapes.specs.declared.view.BandRow.{BandRow}
+use Rattle.trace_shapes.specs.declared.view.Plan.{Plan}
 use Rattle.trace_shapes.specs.declared.view.Band.{Band}
 use Rattle.trace_shapes.specs.declared.view.Reach.{Reach}
-use Rattle.trace_shapes.specs.declared.geometry.TheConstants.{BAND, COLUMN, LEFT, AXIS, BAND_GAP, ROW, LANE, ROW_GAP, LANES, MARK_TOP, LANE_TOP, BAR_GAP}
+use Rattle.trace_shapes.specs.declared.geometry.TheConstants.{BAND, COLUMN, LEFT, ROW, LANE, ROW_GAP, LANES, MARK_TOP, LANE_TOP, THIN_LANE_TOP, WAIT_TOP, THIN_WAIT_TOP, LETTER_LINE, THIN_LINE, WAIT_LINE, THIN_WAIT_LINE, BAR_GAP}
 
 -- the event at place n is drawn
 abbrev pub in_view : DrawnRange → ℕ → Bool
@@ -27,46 +32,65 @@ is_open v n = nat_lt n v.end && not ((n - v.first) % BAND == 0)
 abbrev pub bands : DrawnRange → ℕ → ℕ
 bands v n = (shown v n + (BAND - 1)) / BAND
 
--- a row has a lane for each mutex and semaphore, and at most four
+-- the row of a thread with events has a lane for each mutex and semaphore, and at most four
 abbrev pub lanes_of : Layout → ℕ
 lanes_of l = min (l.mutexes + l.semaphores) LANES
 
--- the band of the event n
-abbrev pub band_of : Layout → DrawnRange → ℕ → Band
-band_of l v n = record { start = n - column v n; threads = l.threads; lanes = lanes_of l }
+-- how high it is then
+abbrev pub busy_height : ℕ → ℕ
+busy_height lanes = ROW + LANE * lanes - ROW_GAP
 
--- how far below one another rows with so many lanes stand, and how high they are
-abbrev pub row_step : ℕ → ℕ
-row_step lanes = ROW + LANE * lanes
+-- the row of a thread in a plan
+abbrev pub no_row : BandRow
+no_row = record { y = 0; height = 0; kind = Absent }
 
-abbrev pub row_height : ℕ → ℕ
-row_height lanes = row_step lanes - ROW_GAP
+abbrev pub row_in : Plan → ℕ → BandRow
+row_in p t = shown_at (λ x. x) no_row p.rows t
 
--- how far below one another the bands stand
-abbrev pub band_height : Layout → ℕ
-band_height l = row_step (lanes_of l) * l.threads + (AXIS + BAND_GAP)
+-- it is thin where its thread has no event in the band
+abbrev pub is_thin : RowKind → Bool
+is_thin Busy = false
+is_thin _ = true
 
--- the upper edge of the band at this number, below the legend
-abbrev pub band_top : Layout → ℕ → ℕ
-band_top l k = k * band_height l
-
--- how high the bands of n events are
-abbrev pub height_of : Layout → DrawnRange → ℕ → ℕ
-height_of l v n = band_top l (bands v n)
+-- the band of the event n, with these rows
+abbrev pub band_of : Layout → DrawnRange → Plan → ℕ → Band
+band_of l v p n = record { start = n - column v n; threads = l.threads; plan = p }
 
 -- the left edge of a column
 abbrev pub column_x : ℕ → ℕ
 column_x c = LEFT + COLUMN * c
 
--- the upper edges, in a band, of the row of a thread, of its marks, and of a lane of its bars
+-- how a thread's row is shown in a band, its upper edge and height, and the upper edge of its marks
+abbrev pub kind_in : Band → ℕ → RowKind
+kind_in b t = (row_in b.plan t).kind
+
 abbrev pub row_y : Band → ℕ → ℕ
-row_y b t = AXIS + row_step b.lanes * t
+row_y b t = (row_in b.plan t).y
+
+abbrev pub row_height : Band → ℕ → ℕ
+row_height b t = (row_in b.plan t).height
 
 abbrev pub mark_y : Band → ℕ → ℕ
 mark_y b t = row_y b t + MARK_TOP
 
+-- from the upper edge of a row to its first lane, which in a thin row is below its wait
+abbrev pub lanes_top : RowKind → ℕ
+lanes_top Busy = LANE_TOP
+lanes_top Waiting = THIN_LANE_TOP + LANE
+lanes_top _ = THIN_LANE_TOP
+
 abbrev pub lane_y : Band → ℕ → ℕ → ℕ
-lane_y b t lane = row_y b t + LANE_TOP + LANE * lane
+lane_y b t lane = row_y b t + lanes_top (kind_in b t) + LANE * lane
+
+-- from the upper edge of a row to its wait, from there to the line of the wait's name, and from the row's edge to that of its thread's name
+abbrev pub wait_top : RowKind → ℕ
+wait_top k = if is_thin k then THIN_WAIT_TOP else WAIT_TOP
+
+abbrev pub wait_line : RowKind → ℕ
+wait_line k = if is_thin k then THIN_WAIT_LINE else WAIT_LINE
+
+abbrev pub name_line : RowKind → ℕ
+name_line k = if is_thin k then THIN_LINE else LETTER_LINE
 
 -- the left edge of the event n in its band
 abbrev pub event_x : Band → ℕ → ℕ

@@ -9,12 +9,13 @@ use Rattle.trace_board.specs.declared.history.Origin.{Origin}
 use Rattle.trace_board.specs.declared.history.Change.{Change}
 use Rattle.trace_board.specs.declared.history.Change.TheVariants.{Begins}
 use Rattle.trace_board.specs.Marks.{marks}
+use Rattle.trace_shapes.specs.declared.view.RowKind.{RowKind}
 use Rattle.trace_shapes.specs.declared.view.Band.{Band}
 use Rattle.trace_shapes.specs.declared.view.Reach.{Reach}
 use Rattle.trace_shapes.specs.declared.view.Strip.{Strip}
-use Rattle.trace_shapes.specs.declared.geometry.TheConstants.{LETTER_LINE, WAIT_TOP, DIGIT_LEFT, DIGITS_END, NAME_LEFT, NAME_LINE, WAIT_LINE, NAMED_WAIT, MIDDLE, AXIS, FLAG_GAP, FLAG_TURN}
+use Rattle.trace_shapes.specs.declared.geometry.TheConstants.{LETTER_LINE, DIGIT_LEFT, DIGITS_END, NAME_LEFT, NAME_LINE, NAMED_WAIT, MIDDLE, FLAG_GAP, FLAG_TURN}
 use Rattle.trace_shapes.specs.Looks.{look_of, has_number}
-use Rattle.trace_shapes.specs.Places.{row_y, row_step, row_height, mark_y, lane_y, event_x, bar_x, bar_width, wait_x, wait_end}
+use Rattle.trace_shapes.specs.Places.{is_thin, kind_in, row_y, row_height, mark_y, lane_y, wait_top, wait_line, name_line, event_x, bar_x, bar_width, wait_x, wait_end}
 
 -- words and a number
 abbrev pub with_number : List ℕ → ℕ → List ℕ
@@ -84,7 +85,7 @@ clause_name broken.Ensures = codes "ENSURES"
 -- a line through the band at an event that fails
 unfoldable pub strike_text : Band → ℕ → List ℕ
 strike_text b n =
-    with_number (codes "<path class='fl' d='M") (event_x b n + MIDDLE) ++ with_number (codes " 19V") (AXIS + row_step b.lanes * b.threads)
+    with_number (codes "<path class='fl' d='M") (event_x b n + MIDDLE) ++ with_number (codes " 19V") b.plan.end
     ++ codes "'/>\n"
 
 -- a flag at its upper end, with what the event fails
@@ -144,20 +145,27 @@ taken_text r x =
     codes "<rect class='e" ++ bar_box r x ++ with_number (codes "' height='12' rx='2'><title>s") x.number
     ++ span_text (codes " taken by t") r x.since ++ bar_name (codes "'>s") r x
 
+-- the upper edge of a wait
+abbrev pub wait_y : Reach → Origin → ℕ
+wait_y r o = row_y r.band o.thread.0 + wait_top (kind_in r.band o.thread.0)
+
 -- the name of the condition of a wait, where there is room for it
 unfoldable pub wait_name : Reach → Origin → List ℕ
 wait_name r o =
-    codes "<text class='hx" ++ place_text (wait_x r o + NAME_LEFT) (row_y r.band o.thread.0 + WAIT_TOP + WAIT_LINE)
+    codes "<text class='hx" ++ place_text (wait_x r o + NAME_LEFT) (wait_y r o + wait_line (kind_in r.band o.thread.0))
     ++ with_number (codes "'>c") o.object ++ codes "</text>\n"
 
 abbrev pub wait_name_if : Reach → Origin → List ℕ
 wait_name_if r o = if nat_lt (wait_end r - wait_x r o) NAMED_WAIT then [] else wait_name r o
 
+-- how high a wait is, before the number of its condition
+abbrev pub wait_tag : RowKind → List ℕ
+wait_tag k = if is_thin k then codes "' height='8'><title>wait on c" else codes "' height='9'><title>wait on c"
+
 -- a part of a wait, from one point to another
 unfoldable pub wait_part : List ℕ → Reach → Origin → ℕ → ℕ → List ℕ
 wait_part tag r o x end =
-    tag ++ box_text x (row_y r.band o.thread.0 + WAIT_TOP) (end - x) ++ with_number (codes "' height='9'><title>wait on c") o.object
-    ++ span_text (codes " of t") r o
+    tag ++ box_text x (wait_y r o) (end - x) ++ with_number (wait_tag (kind_in r.band o.thread.0)) o.object ++ span_text (codes " of t") r o
 
 -- that it is in its condition, up to this point
 unfoldable pub in_text : Reach → Origin → ℕ → List ℕ
@@ -187,14 +195,17 @@ unfoldable pub wait_text : Reach → Origin → Option Origin → List ℕ
 wait_text r o p = parts_text r o p ++ wait_name_if r o
 
 -- the end of a row's tag, and its name
+abbrev pub name_tag : RowKind → List ℕ
+name_tag k = if is_thin k then codes "'/><text class='c' x='6' y='" else codes "'/><text class='y' x='6' y='"
+
 unfoldable pub row_name : Band → ℕ → List ℕ
 row_name b t =
-    with_number (codes "'/><text class='y' x='6' y='") (row_y b t + LETTER_LINE) ++ with_number (codes "'>t") t ++ codes "</text>\n"
+    with_number (name_tag (kind_in b t)) (row_y b t + name_line (kind_in b t)) ++ with_number (codes "'>t") t ++ codes "</text>\n"
 
 -- the row of a thread, with its name
 unfoldable pub row_text : Band → ℕ → List ℕ
 row_text b t =
-    with_number (codes "<rect class='r' x='40' width='1208' height='") (row_height b.lanes) ++ with_number (codes "' y='") (row_y b t)
+    with_number (codes "<rect class='r' x='40' width='1208' height='") (row_height b t) ++ with_number (codes "' y='") (row_y b t)
     ++ row_name b t
 
 -- the number of each fifth event above its column

@@ -1,15 +1,16 @@
 //! Arrows from the events that let a thread go on, and from forks, written into a buffer after its first `at` bytes. Each call returns where it ended.
 ghost use Rattle.std.specs.Prelude.{◌≡◌, ◌+◌, ◌-◌, ◌<◌, ◌≤◌, ◌^◌, ◌++◌, length, take, codes, min};
-ghost use Rattle.trace_shapes.specs.Places.{event_x, row_y, mark_y};
+ghost use Rattle.trace_shapes.specs.Places.{kind_in, event_x, row_y, mark_y};
 ghost use Rattle.trace_shapes.specs.Shapes.{with_number};
-ghost use Rattle.trace_shapes.specs.Arrows.{link, turn_text, way_text, origin_text, tags_text, lets_go, forks, leaves, straight, bent, joined, hook, way_or_hook, arrow_text, arrow_if, wake_text, fork_text, is_freed, wake_if};
+ghost use Rattle.trace_shapes.specs.Arrows.{link, turn_text, way_text, origin_text, tags_text, lets_go, forks, leaves, head_above, head_below, straight, bent, from_end, hook, way_or_hook, arrow_text, arrow_if, wake_text, fork_text, is_freed, wake_if};
 
 use crate::geometry::{
     COLUMN, EARLIER, HEAD_ABOVE, HEAD_BELOW, HOOK, LEVEL, MARK_HEIGHT, MARK_MIDDLE, MIDDLE,
+    THIN_HEAD_ABOVE, THIN_HEAD_BELOW,
 };
-use crate::shapes::{event_x, mark_y, row_y};
+use crate::places::{event_x, kind_in, mark_y, row_y};
 use crate::tags::add_with_number;
-use crate::view::{Band, Freeing, Link, Shape, Turn, Way};
+use crate::view::{Band, Freeing, Link, RowKind, Shape, Turn, Way, is_thin};
 use larch_actions::{ThreadId, ThreadSet};
 use trace_board::causes::Cause;
 use trace_board::history::Origin;
@@ -119,16 +120,40 @@ fn origin_x(link: &Link) -> u64
     event_x(&link.band, link.from.place.min(link.place))
 }
 
+// From the upper edge of a row to the head of an arrow from above and from below.
+fn head_above(kind: RowKind) -> u64
+    ensures head { result ≡ head_above kind }
+    ensures small { result < 100 }
+{
+    if is_thin(kind) {
+        THIN_HEAD_ABOVE
+    } else {
+        HEAD_ABOVE
+    }
+}
+
+fn head_below(kind: RowKind) -> u64
+    ensures head { result ≡ head_below kind }
+    ensures small { result < 100 }
+{
+    if is_thin(kind) {
+        THIN_HEAD_BELOW
+    } else {
+        HEAD_BELOW
+    }
+}
+
 // Straight from its event into the row of the thread.
 fn straight(link: &Link) -> Way
     requires { link.now.place < 2 ^ 42 }
     ensures { result ≡ straight link.now }
 {
     let row = row_y(&link.band, link.to);
+    let kind = kind_in(&link.band, link.to);
     let end = if link.from.thread.0 < link.to {
-        row + HEAD_ABOVE
+        row + head_above(kind)
     } else {
-        row + HEAD_BELOW
+        row + head_below(kind)
     };
     Way {
         x: origin_x(link) + MIDDLE,
@@ -156,9 +181,9 @@ fn bent(link: &Link) -> Way
 }
 
 // From the end of a thread along its row, into the mark of the join.
-fn joined(link: &Link) -> Way
+fn from_end(link: &Link) -> Way
     requires { link.now.place < 2 ^ 42 }
-    ensures { result ≡ joined link.now }
+    ensures { result ≡ from_end link.now }
 {
     let level = mark_y(&link.band, link.from.thread.0) + MARK_MIDDLE;
     let mark = mark_y(&link.band, link.to);
@@ -184,7 +209,7 @@ fn hook(link: &Link) -> Way
     requires { link.now.place < 2 ^ 42 }
     ensures { result ≡ hook link.now }
 {
-    let level = row_y(&link.band, link.to) - EARLIER;
+    let level = row_y(&link.band, link.to).saturating_sub(EARLIER);
     let across = across(link);
     let turn = Turn { level, across };
     Way {
@@ -204,7 +229,7 @@ fn way_of(shape: Shape, link: &Link) -> Way
         match shape {
             Shape::Straight => straight(link),
             Shape::Bent => bent(link),
-            Shape::Joined => joined(link),
+            Shape::FromEnd => from_end(link),
         }
     } else {
         hook(link)

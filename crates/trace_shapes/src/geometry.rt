@@ -8,9 +8,7 @@ pub const COLUMN: u64 = 24;
 pub const LEFT: u64 = 44;
 /// From the left edge of a column to the middle of its mark.
 pub const MIDDLE: u64 = 11;
-/// The left and the right edge of a row.
-pub const ROW_LEFT: u64 = 40;
-
+/// The right edge of a row.
 pub const ROW_RIGHT: u64 = 1248;
 /// How high the numbers above the rows of a band are.
 pub const AXIS: u64 = 20;
@@ -34,6 +32,25 @@ pub const LETTER_LINE: u64 = 17;
 pub const WAIT_TOP: u64 = 8;
 
 pub const LANE_TOP: u64 = 21;
+/// In a thin row, from its upper edge to the line on which its name stands, to a wait, to the line of the wait's name and to the first lane below no wait,
+/// and to the head of an arrow from above and from below into it.
+pub const THIN_LINE: u64 = 10;
+
+pub const THIN_WAIT_TOP: u64 = 2;
+
+pub const THIN_WAIT_LINE: u64 = 7;
+
+pub const THIN_LANE_TOP: u64 = 1;
+
+pub const THIN_HEAD_ABOVE: u64 = 4;
+
+pub const THIN_HEAD_BELOW: u64 = 11;
+/// How far apart two thin rows are.
+pub const THIN_GAP: u64 = 1;
+/// How high the line of the threads without rows is, and how many names it has at most.
+pub const IDLE: u64 = 11;
+
+pub const IDLE_NAMES: u32 = 40;
 /// How high a mark is.
 pub const MARK_HEIGHT: u64 = 15;
 /// From the left edge of a mark to the middle of a letter that has a number beside it, to a number of one digit, and to the end of a longer one.
@@ -65,12 +82,7 @@ pub const MARK_MIDDLE: u64 = 7;
 pub const NAMED_WAIT: u64 = 20;
 /// How short of the next column a bar ends.
 pub const BAR_GAP: u64 = 2;
-/// Where the line through a band with an event that fails begins, the line of its flag's words, how far these are from it, and from which column on they
-/// stand left of it.
-pub const FLAG_TOP: u64 = 19;
-
-pub const FLAG_LINE: u64 = 13;
-
+/// How far the words of the flag of an event that fails are from the line through its band, and from which column on they stand left of it.
 pub const FLAG_GAP: u64 = 6;
 
 pub const FLAG_TURN: u64 = 25;

@@ -9,8 +9,11 @@ pub mod arrows;
 pub mod geometry;
 pub mod legend;
 mod numbers;
+pub mod places;
 pub mod shapes;
 pub mod tags;
 pub mod view;
 
-pub use view::{Band, DrawnRange, Freeing, Link, Reach, Shape, Strip, Turn, Way};
+pub use view::{
+    Band, BandRow, DrawnRange, Freeing, Link, Plan, Reach, RowKind, Shape, Strip, Turn, Way,
+};

@@ -2,71 +2,23 @@
 ghost use Rattle.std.specs.Prelude.{◌≡◌, ◌+◌, ◌-◌, ◌*◌, ◌%◌, ◌<◌, ◌≤◌, ◌^◌, ◌++◌, ◌∷◌, [], length, take, codes};
 ghost use Rattle.trace_board.specs.Marks.{marks};
 ghost use Rattle.trace_shapes.specs.Looks.{look_of};
-ghost use Rattle.trace_shapes.specs.Places.{bar_from, bar_width, bar_x, column_x, event_x, lane_y, mark_y, row_y, row_step, row_height, wait_x, wait_end};
-ghost use Rattle.trace_shapes.specs.Shapes.{with_number, line_of, place_text, box_text, clause_word, clause_name, strike_text, flag_place, flag_text, begins, mark_id, mark_text, failed_mark, failed_text, end_words, span_text, giver_text, given_text, bar_box, bar_name, bar_text, taken_text, wait_name, wait_name_if, wait_part, in_text, in_if, let_go_x, out_text, out_if, parts_text, wait_text, row_name, row_text, number_text, digits_of, number_left, object_text, object_if};
+ghost use Rattle.trace_shapes.specs.Places.{bar_from, bar_width, bar_x, event_x, lane_y, mark_y, kind_in, row_y, row_height, wait_top, wait_line, name_line, wait_x, wait_end};
+ghost use Rattle.trace_shapes.specs.Shapes.{with_number, line_of, place_text, box_text, clause_word, clause_name, strike_text, flag_place, flag_text, begins, mark_id, mark_text, failed_mark, failed_text, end_words, span_text, giver_text, given_text, bar_box, bar_name, bar_text, taken_text, wait_y, wait_name, wait_name_if, wait_tag, wait_part, in_text, in_if, let_go_x, out_text, out_if, parts_text, wait_text, name_tag, row_name, row_text, number_text, digits_of, number_left, object_text, object_if};
 
 use crate::geometry::{
-    AXIS, BAR_GAP, COLUMN, DIGIT_LEFT, DIGITS_END, FLAG_GAP, FLAG_TURN, LANE, LANE_TOP, LEFT,
-    LETTER_LINE, MARK_TOP, MIDDLE, NAME_LEFT, NAME_LINE, NAMED_WAIT, ROW, ROW_GAP, WAIT_LINE,
-    WAIT_TOP,
+    BAR_GAP, COLUMN, DIGIT_LEFT, DIGITS_END, FLAG_GAP, FLAG_TURN, LEFT, LETTER_LINE, MIDDLE,
+    NAME_LEFT, NAME_LINE, NAMED_WAIT,
 };
 use crate::legend::{has_number, look_of};
+use crate::places::{
+    event_x, kind_in, lane_y, mark_y, name_line, row_height, row_y, wait_line, wait_top,
+};
 use crate::tags::{add_box, add_line, add_place, add_with_number};
-use crate::view::{Band, Reach, Strip};
+use crate::view::{Band, Reach, RowKind, Strip, is_thin};
 use larch_actions::{Broken, Event};
 use trace_board::history::{Change, Origin};
 use trace_board::marks::{Effects, Mark};
 use trace_core::add;
-
-/// The left edge of a column.
-pub fn x_of(column: u64) -> u64
-    requires { column < 2 ^ 42 }
-    ensures { result ≡ column_x column }
-{
-    LEFT + COLUMN * column
-}
-
-/// The left edge of an event in its band.
-pub fn event_x(band: &Band, place: u64) -> u64
-    requires { place < 2 ^ 42 }
-    ensures x { result ≡ event_x band.now place }
-    ensures small { result < 2 ^ 48 }
-{
-    x_of(place.saturating_sub(band.start))
-}
-
-/// How far below one another the rows stand.
-pub fn row_step(lanes: u8) -> u64
-    ensures step { result ≡ row_step lanes }
-    ensures small { result < 2 ^ 12 }
-    ensures large { 26 ≤ result }
-{
-    ROW + LANE * u64::from(lanes)
-}
-
-/// The upper edge of the row of a thread.
-pub fn row_y(band: &Band, thread: u32) -> u64
-    ensures y { result ≡ row_y band.now thread }
-    ensures small { result < 2 ^ 45 }
-{
-    AXIS + row_step(band.lanes) * u64::from(thread)
-}
-
-/// The upper edge of the marks of a thread.
-pub fn mark_y(band: &Band, thread: u32) -> u64
-    ensures y { result ≡ mark_y band.now thread }
-    ensures small { result < 2 ^ 46 }
-{
-    row_y(band, thread) + MARK_TOP
-}
-
-// The upper edge of a lane of bars in the row of a thread.
-fn lane_y(band: &Band, thread: u32, lane: u32) -> u64
-    ensures y { result ≡ lane_y band.now thread lane }
-    ensures small { result < 2 ^ 46 }
-{
-    row_y(band, thread) + LANE_TOP + LANE * u64::from(lane)
-}
 
 /// The word of a clause.
 pub fn word_of(why: Broken) -> &'static [u8]
@@ -258,13 +210,6 @@ fn clause_name(why: Broken) -> &'static [u8]
     }
 }
 
-// The lower edge of the rows of a band.
-fn rows_end(band: &Band) -> u64
-    ensures { result ≡ AXIS + row_step band.now.lanes * band.now.threads }
-{
-    AXIS + row_step(band.lanes) * u64::from(band.threads)
-}
-
 // Adds a line through the band at an event that fails.
 #[tactic(auto, unfolding(crate::specs::Shapes::strike_text))]
 fn add_strike(buf: &mut [u8], at: usize, band: &Band, place: u64) -> usize
@@ -275,7 +220,7 @@ fn add_strike(buf: &mut [u8], at: usize, band: &Band, place: u64) -> usize
 {
     let x = event_x(band, place) + MIDDLE;
     let at = add_with_number(buf, at, b"<path class='fl' d='M", x);
-    let at = add_with_number(buf, at, b" 19V", rows_end(band));
+    let at = add_with_number(buf, at, b" 19V", u64::from(band.plan.end));
     add(buf, at, b"'/>\n")
 }
 
@@ -533,6 +478,15 @@ fn wait_end(reach: &Reach) -> u64
     }
 }
 
+// The upper edge of a wait.
+fn wait_y(reach: &Reach, o: &Origin) -> u64
+    ensures y { result ≡ wait_y reach.now o.now }
+    ensures small { result < 2 ^ 17 }
+{
+    let kind = kind_in(&reach.band, o.thread.0);
+    row_y(&reach.band, o.thread.0) + wait_top(kind)
+}
+
 // Adds the name of the condition of a wait.
 #[tactic(auto, unfolding(crate::specs::Shapes::wait_name))]
 fn add_wait_name(buf: &mut [u8], at: usize, reach: &Reach, o: &Origin) -> usize
@@ -542,7 +496,7 @@ fn add_wait_name(buf: &mut [u8], at: usize, reach: &Reach, o: &Origin) -> usize
     ensures near { result ≤ at + 100 }
 {
     let x = wait_x(reach, o) + NAME_LEFT;
-    let y = row_y(&reach.band, o.thread.0) + WAIT_TOP + WAIT_LINE;
+    let y = wait_y(reach, o) + wait_line(kind_in(&reach.band, o.thread.0));
     let at = add(buf, at, b"<text class='hx");
     let at = add_place(buf, at, x, y);
     let at = add_with_number(buf, at, b"'>c", u64::from(o.object));
@@ -564,6 +518,18 @@ fn add_wait_name_if(buf: &mut [u8], at: usize, reach: &Reach, o: &Origin) -> usi
     }
 }
 
+// How high a wait is, before the number of its condition.
+fn wait_tag(kind: RowKind) -> &'static [u8]
+    ensures tag { result.now ≡ wait_tag kind }
+    ensures short { length result.now ≤ 29 }
+{
+    if is_thin(kind) {
+        b"' height='8'><title>wait on c"
+    } else {
+        b"' height='9'><title>wait on c"
+    }
+}
+
 // Adds a part of a wait.
 #[tactic(auto, unfolding(crate::specs::Shapes::wait_part))]
 fn add_wait_part(
@@ -580,15 +546,11 @@ fn add_wait_part(
     ensures text { take result buf.new ≡ take at buf.old ++ wait_part tag.now reach.now o.now x end }
     ensures near { result ≤ at + 255 }
 {
-    let y = row_y(&reach.band, o.thread.0) + WAIT_TOP;
+    let height = wait_tag(kind_in(&reach.band, o.thread.0));
+    let y = wait_y(reach, o);
     let at = add(buf, at, tag);
     let at = add_box(buf, at, x, y, end.saturating_sub(x));
-    let at = add_with_number(
-        buf,
-        at,
-        b"' height='9'><title>wait on c",
-        u64::from(o.object),
-    );
+    let at = add_with_number(buf, at, height, u64::from(o.object));
     add_span(buf, at, b" of t", reach, o)
 }
 
@@ -695,6 +657,18 @@ pub fn add_wait_bar(
     add_wait_name_if(buf, at, reach, o)
 }
 
+// The start of the tag of a thread's name, after the end of its row's tag.
+fn name_tag(kind: RowKind) -> &'static [u8]
+    ensures tag { result.now ≡ name_tag kind }
+    ensures short { length result.now ≤ 30 }
+{
+    if is_thin(kind) {
+        b"'/><text class='c' x='6' y='"
+    } else {
+        b"'/><text class='y' x='6' y='"
+    }
+}
+
 /// Adds the end of a row's tag, and its name.
 #[tactic(auto, unfolding(crate::specs::Shapes::row_name))]
 pub fn add_row_name(buf: &mut [u8], at: usize, band: &Band, thread: u32) -> usize
@@ -702,18 +676,11 @@ pub fn add_row_name(buf: &mut [u8], at: usize, band: &Band, thread: u32) -> usiz
     ensures text { take result buf.new ≡ take at buf.old ++ row_name band.now thread }
     ensures near { result ≤ at + 80 }
 {
-    let y = row_y(band, thread) + LETTER_LINE;
-    let at = add_with_number(buf, at, b"'/><text class='y' x='6' y='", y);
+    let kind = kind_in(band, thread);
+    let y = row_y(band, thread) + name_line(kind);
+    let at = add_with_number(buf, at, name_tag(kind), y);
     let at = add_with_number(buf, at, b"'>t", u64::from(thread));
     add(buf, at, b"</text>\n")
-}
-
-/// How high a row is.
-pub fn row_height(lanes: u8) -> u64
-    ensures height { result ≡ row_height lanes }
-    ensures small { result < 2 ^ 12 }
-{
-    row_step(lanes) - ROW_GAP
 }
 
 /// Adds the row of a thread.
@@ -723,7 +690,7 @@ pub fn add_row(buf: &mut [u8], at: usize, band: &Band, thread: u32) -> usize
     ensures text { take result buf.new ≡ take at buf.old ++ row_text band.now thread }
     ensures near { result ≤ at + 170 }
 {
-    let height = row_height(band.lanes);
+    let height = row_height(band, thread);
     let at = add_with_number(
         buf,
         at,

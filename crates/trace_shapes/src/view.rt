@@ -1,7 +1,7 @@
 //! Which events are drawn, and where.
 ghost use Rattle.std.specs.Prelude.{◌≡◌, ◌<◌, ◌≤◌, ◌+◌, ◌-◌, ◌^◌, ◌↔◌, IsTrue, true, false};
 ghost use Rattle.larch_actions.specs.Layout.{IsLawful};
-ghost use Rattle.trace_shapes.specs.Places.{in_view, column, is_open, bands, shown, lanes_of, band_of};
+ghost use Rattle.trace_shapes.specs.Places.{in_view, column, is_open, bands, shown, lanes_of, no_row, row_in, is_thin, band_of};
 
 use crate::geometry::{BAND, LANES};
 use larch_actions::{Layout, ThreadSet};
@@ -15,12 +15,74 @@ pub struct DrawnRange {
     pub ordered: bool,
 }
 
-/// A band: the place of its first event, how many rows it has, and how many lanes a row.
+/// How a thread is shown in a band: it has events there, or only a wait with the bars below it, or only bars or its fork, or it has no row.
+#[derive(Clone, Copy, Debug, PartialEq, Eq)]
+pub enum RowKind {
+    Busy,
+    Waiting,
+    Still,
+    Absent,
+}
+
+/// The row of a thread in a band: its upper edge, how high it is, and what it shows.
+#[derive(Clone, Copy)]
+pub struct BandRow {
+    pub y: u16,
+    pub height: u16,
+    pub kind: RowKind,
+}
+
+/// The rows of a band, and how far they go down.
+#[derive(Clone, Copy)]
+pub struct Plan {
+    pub rows: [BandRow; 256],
+    pub end: u16,
+}
+
+impl BandRow {
+    /// That of a thread that has none.
+    pub fn none() -> BandRow
+        ensures { result ≡ no_row }
+    {
+        BandRow {
+            y: 0,
+            height: 0,
+            kind: RowKind::Absent,
+        }
+    }
+}
+
+impl Plan {
+    /// The row of the thread.
+    pub fn at(&self, t: u32) -> BandRow
+        ensures { result ≡ row_in self.now t }
+    {
+        if t < 256 {
+            self.rows[t as usize]
+        } else {
+            BandRow::none()
+        }
+    }
+}
+
+/// Whether the row is thin, since its thread has no event in the band.
+pub fn is_thin(kind: RowKind) -> bool
+    ensures { result ≡ is_thin kind }
+{
+    match kind {
+        RowKind::Busy => false,
+        RowKind::Waiting => true,
+        RowKind::Still => true,
+        RowKind::Absent => true,
+    }
+}
+
+/// A band: the place of its first event, how many threads it is about, and its rows.
 #[derive(Clone, Copy)]
 pub struct Band {
     pub start: u64,
     pub threads: u32,
-    pub lanes: u8,
+    pub plan: Plan,
 }
 
 /// How much of a bar its band shows: up to the event before `to`, where the bar ends or goes on.
@@ -63,7 +125,7 @@ pub struct Freeing {
 pub enum Shape {
     Straight,
     Bent,
-    Joined,
+    FromEnd,
 }
 
 /// The way of an arrow: from a point, straight or by a level and across from there, to a height.
@@ -113,7 +175,7 @@ pub fn count_bands(view: &DrawnRange, count: u64) -> u64
     (count.min(view.end).saturating_sub(view.first) + (BAND - 1)) / BAND
 }
 
-/// How many lanes a row has: one for each mutex and semaphore, and at most four.
+/// How many lanes the row of a thread with events has: one for each mutex and semaphore, and at most four.
 pub fn lanes_of(layout: &Layout) -> u8
     requires { IsLawful layout.now }
     ensures { result ≡ lanes_of layout.now }
@@ -121,14 +183,13 @@ pub fn lanes_of(layout: &Layout) -> u8
     (u64::from(layout.mutexes) + u64::from(layout.semaphores)).min(LANES) as u8
 }
 
-/// The band of the event.
-pub fn band_of(layout: &Layout, view: &DrawnRange, place: u64) -> Band
-    requires { IsLawful layout.now }
-    ensures { result ≡ band_of layout.now view.now place }
+/// The band of the event, with these rows.
+pub fn band_of(layout: &Layout, view: &DrawnRange, plan: &Plan, place: u64) -> Band
+    ensures { result ≡ band_of layout.now view.now plan.now place }
 {
     Band {
         start: place - column_of(view, place),
         threads: layout.threads,
-        lanes: lanes_of(layout),
+        plan: *plan,
     }
 }

@@ -18,7 +18,8 @@ returns-clause-text c =
     let why = c.args.why in
     let old = take c.args.at c.args.buf.now in
     let k = tracked_of c.args.drawing.now.board in
+    let p = c.args.drawing.now.page in
     let m = c.marks_of.ensures in
     let shown = c.note_failing.ensures ∙ (λ i. shown_failed l v k (record { thread = e.thread; object = (m i).object; place = n }) (entry_of c.args.drawing.now.shown)) in
     added_two old _ _ _ _ c.add_failing-at.ensures.text c.add_failed_end.ensures.text
-    ∙ (λ i. old ++ (failing_text l v k n e why ++ end_text l v (record { board = k; shown = shown i }) (n + 1) THREE_LINES (refusal l.version v k n e why)))
+    ∙ (λ i. old ++ (failing_text l v p k n e why ++ end_text l v (record { board = k; shown = shown i; page = p }) (n + 1) THREE_LINES (refusal l.version v k n e why)))
