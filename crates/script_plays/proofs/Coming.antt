@@ -81,21 +81,23 @@ module _ (l : Layout) (of at : ℕ → List Visit) (value : ℕ → ℕ) where
       let v : Visit = leaves t k hand in
       let mine : of t ≡ v ∷ b = same ∙ ap (λ (w : List Visit). w ++ b) deals.0 in
       let gives_it : gives k.0 e.action ≡ true = gives_given k.0 e.action ∙ (ap (λ x. given x k.0) is ∙ eq-eqb k.0 k.0 refl) in
-      let f = first_at l value t k.0 v (visits_at k.0 b) (givers k.0 es) (at k.0) (sym (here v b k.0 refl) ∙ (ap (visits_at k.0) (sym mine) ∙ c.couple t k.0 low)) (sym (givers_now k.0 e es gives_it) ∙ c.gives k.0) in
-      (put at k.0 f.0, record {
-        couple = λ i m below. put_all (λ j (w : List Visit). (i < l.threads) → visits_at j (put of t b i) ≡ visits_by i w) at k.0 f.0 m
-            (λ less. put_all (λ n (w : List Visit). n < l.threads → visits_at k.0 w ≡ visits_by n f.0) of t b i
+      let f = first_at l value t k.0 v (visits_at k.0 b) (givers k.0 es) (at k.0) (sym (here v b k.0 refl) ∙ (ap (visits_at k.0) (sym mine) ∙ c.couple t k.0 low)) (sym (givers_now k.0 e es gives_it) ∙ c.gives k.0) in (
+        put at k.0 f.0,
+        record {
+          couple = λ i m below. put_all (λ j (w : List Visit). (i < l.threads) → visits_at j (put of t b i) ≡ visits_by i w) at k.0 f.0 m
+              (λ less. put_all (λ n (w : List Visit). n < l.threads → visits_at k.0 w ≡ visits_by n f.0) of t b i
               (λ lower. f.2)
               (λ other lower. c.couple i k.0 lower ∙ (ap (visits_by i) f.1 ∙ gone v f.0 i (λ eq. other (sym eq)))) less)
-            (λ apart less. put_all (λ n (w : List Visit). n < l.threads → visits_at m w ≡ visits_by n (at m)) of t b i
+              (λ apart less. put_all (λ n (w : List Visit). n < l.threads → visits_at m w ≡ visits_by n (at m)) of t b i
               (λ lower. sym (elsewhere v b m (λ eq. apart (sym eq))) ∙ (ap (visits_at m) (sym mine) ∙ c.couple t m lower))
               (λ other lower. c.couple i m lower) less)
-            below;
-        gives = λ m. put_all (λ j (w : List Visit). givers j es ≡ map (λ v. v.thread) w) at k.0 f.0 m
-            f.3
-            (λ apart. sym (givers_skip m e es (gives_given m e.action ∙ (ap (λ x. given x m) is ∙ ne_eqb k.0 m (λ eq. apart (sym eq))))) ∙ c.gives m);
-        lead = λ m less. elim (eqb_tells m k.0) [
-          | inl p ↦ rw p.0 ((c.lead k.0 few).0, (subst (λ (to : List Visit). LeadTo (value k.0) to (c.lead k.0 few).0) f.1 (c.lead k.0 few).1).1)
-          | inr p ↦ rw p.0 (c.lead m less)
-        ];
-      })
+              below;
+          gives = λ m. put_all (λ j (w : List Visit). givers j es ≡ map (λ v. v.thread) w) at k.0 f.0 m
+              f.3
+              (λ apart. sym (givers_skip m e es (gives_given m e.action ∙ (ap (λ x. given x m) is ∙ ne_eqb k.0 m (λ eq. apart (sym eq))))) ∙ c.gives m);
+          lead = λ m less. elim (eqb_tells m k.0) [
+            | inl p ↦ rw p.0 ((c.lead k.0 few).0, (subst (λ (to : List Visit). LeadTo (value k.0) to (c.lead k.0 few).0) f.1 (c.lead k.0 few).1).1)
+            | inr p ↦ rw p.0 (c.lead m less)
+          ];
+        },
+      )

@@ -131,9 +131,9 @@ module _ (v : Version) (t m : ℕ) where
           }
           | inr not ↦
               let k = keeps t m (deal e.action) s.holder hand vs turn.1 turn.2 turn.3 (subst (λ i. MayDeal i (deal e.action) s.holder) p.1 (may_deal s e.thread.0 e.action may)) turn.5 turn.6 held
-                  (sym (gives_given m e.action) ∙ not) in
+              (sym (gives_given m e.action) ∙ not) in
               let next : u.holder m ≡ some t =
-                  ap (λ (q : Spec). q.holder m) is ∙ (ap (λ (f : ℕ → Option ℕ). f m) (holder_dealt s e.thread.0 e.action) ∙ (ap (λ i. dealt i (deal e.action) s.holder m) p.1 ∙ k.held)) in
+              ap (λ (q : Spec). q.holder m) is ∙ (ap (λ (f : ℕ → Option ℕ). f m) (holder_dealt s e.thread.0 e.action) ∙ (ap (λ i. dealt i (deal e.action) s.holder m) p.1 ∙ k.held)) in
               let more = gives_first es u z (quiet_lines (lines_after turn.0 rest) turn.3) (quiet_hand (lines_after turn.0 rest) turn.3) turn.2 leads next free turn.7 in
               record {
                 visit = more.visit;

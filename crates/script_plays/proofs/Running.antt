@@ -95,4 +95,3 @@ Opens t o [] hand vs after = (is_silent o (now hand) ≡ true) × (vs ≡ []) ×
 Opens t o (e ∷ es) hand vs after = (is_silent o (now hand) ≡ false) × (turn : Turn) × (a b : List Visit) × (next : Hand)
     × MayMake o (record { action = e.action; turn = turn }) × Deals t (deal e.action) hand a next × (vs ≡ a ++ b)
     × (((turn ≡ Next) × (es ≡ []) × (b ≡ []) × (next ≡ after)) ⊎ ((turn ≡ Stays) × Opens t o es next b after))
-

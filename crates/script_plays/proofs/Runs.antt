@@ -147,6 +147,9 @@ begins l xs h script visited =
 
 pub runs_are_whole : RunsAreWhole
 runs_are_whole l xs h script (z, leads, free, idle, over) names visited =
-    let play = plays_on l xs h (first_scene l.version) z names leads free (begins l xs h script visited) in
-    (play.0, play.1, λ t low. finished l.version xs h play.0 (play.2.hand t) (visits_by t visited.visits) (play.2.of t) t
-      (subst (λ (q : Spec). Leads (at_first l.version) h q) (sym play.3) leads) (subst (λ (q : Spec). AreOver l.version q.life) (sym play.3) over) (visited.own t low) (play.2.runs t low))
+    let play = plays_on l xs h (first_scene l.version) z names leads free (begins l xs h script visited) in (
+      play.0,
+      play.1,
+      λ t low. finished l.version xs h play.0 (play.2.hand t) (visits_by t visited.visits) (play.2.of t) t
+          (subst (λ (q : Spec). Leads (at_first l.version) h q) (sym play.3) leads) (subst (λ (q : Spec). AreOver l.version q.life) (sym play.3) over) (visited.own t low) (play.2.runs t low),
+    )

@@ -62,7 +62,7 @@ sum_grows : (f g : ℕ → ℕ) (n t d : ℕ) → t < n → ((u : ℕ) → u ≢
 sum_grows f g zero t d low all here = absurd (omega arith)
 sum_grows f g (suc n) t d low all here = dite (ℕ_discrete t n)
     (λ e. let last : f n ≡ g n + d = subst (λ (j : ℕ). f j ≡ g j + d) e here in
-      omega (arith, last, sum_same f g n (λ u less. all u (λ is. absurd (let both : n ≡ u = sym e ∙ sym is in omega (arith, less, both))))))
+    omega (arith, last, sum_same f g n (λ u less. all u (λ is. absurd (let both : n ≡ u = sym e ∙ sym is in omega (arith, less, both))))))
     (λ ne. omega (arith, sum_grows f g n t d (omega (arith, low, ne)) all here, all n (λ is. ne (sym is))))
 
 module _ (n : ℕ) (xs : List Line) (t : ℕ) (low : t < n) where
@@ -83,8 +83,8 @@ module _ (n : ℕ) (xs : List Line) (t : ℕ) (low : t < n) where
         | inl silent ↦
             let also : is_silent x.operation (now h) ≡ true = sym alike ∙ silent in
             let later = in_step rest mine (put p t (suc (p t))) (silently x.operation h) (rest_next xs p t x rest e)
-                (subst (λ (z : Mine). AreOwn z rest) (silent_keeps x.operation (number_of n xs p) mine silent) own.1)
-                (λ m has. silent_adds x.operation (number_of n xs p) h m silent ∙ (ap (λ k. k + added_by x.operation m) (same m has) ∙ sym (number_next p m x rest e))) in
+            (subst (λ (z : Mine). AreOwn z rest) (silent_keeps x.operation (number_of n xs p) mine silent) own.1)
+            (λ m has. silent_adds x.operation (number_of n xs p) h m silent ∙ (ap (λ k. k + added_by x.operation m) (same m has) ∙ sym (number_next p m x rest e))) in
             rw (silent, also) (later.0, λ m. omega (arith, later.1 m, number_next p m x rest e, silent_adds x.operation (number_of n xs p) h m silent))
         | inr not ↦
             let also : is_silent x.operation (now h) ≡ false = sym alike ∙ not in

@@ -200,7 +200,7 @@ module _ (l : Layout) (xs : List Line) (s : Scene) (e : Event) (es : List Event)
       let few : m < l.mutexes = subst (λ (d : Deal). Low l d) is (low_deal l e.action names.1) in
       let first = gives_first l.version t m es u z (quiet_lines (lines_after turn rest) after) later made.2 leads held (free m) made.7 in
       let last = got_is l (put on.of t made.2) coming.0 (valued (deal e.action) (on.hand t) on.value) es t m first.visit first.later first.others coming.1 names.0 few
-          (ap (visits_at m) (put_here on.of t made.2) ∙ first.visits) first.givers in
+      (ap (visits_at m) (put_here on.of t made.2) ∙ first.visits) first.givers in
       let x_is : (after m).0 ≡ x = ap (λ (h : Hand). (h m).0) with_it ∙ rw (eq-eqb m m refl) refl in
       sym (first.got ∙ (quiet_got (lines_after turn rest) after m ∙ x_is)) ∙ (last ∙ (ap (λ (d : Deal). valued d (on.hand t) on.value m) is ∙ sym (on.free m was)))
 
@@ -239,8 +239,8 @@ module _ (l : Layout) (xs : List Line) (s : Scene) (e : Event) (es : List Event)
       | inl waits ↦
           let b = began m waits in
           let same : later ≡ after =
-              ap (λ (k : Turn). quiet_hand (lines_after k rest) after) b.stays
-              ∙ (ap (λ (h : Hand). quiet_hand rest h) (same_hand m b) ∙ (loud_hand rest (on.hand t) (on.loud t names.0) ∙ sym (same_hand m b))) in
+          ap (λ (k : Turn). quiet_hand (lines_after k rest) after) b.stays
+          ∙ (ap (λ (h : Hand). quiet_hand rest h) (same_hand m b) ∙ (loud_hand rest (on.hand t) (on.loud t names.0) ∙ sym (same_hand m b))) in
           omega (arith, sums m, ap (λ (h : Hand). (h m).1) same)
       | inr idle ↦ absurd (not (holds_now m has idle))
     ]

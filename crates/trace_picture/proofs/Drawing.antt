@@ -292,9 +292,11 @@ module _ (l : Layout) (v : DrawnRange) (events : List Event) (reported₀ report
     flowed : (text : List ℕ) → event_text l v n k es e ≡ text → (all : List ℕ) → all ≡ prefix_picture l v [] a.done ++ text → Pending reported₀ reported' kept' all []
     flowed text is all whole =
         let g = subst (Flows reported reported' kept kept') is f in
-        let p = a.flows in
-        (p.0 ++ g.0, Appends-trans reported₀ reported reported' p.0 g.0 p.1 g.1,
-          whole ∙ ap (λ x. x ++ text) (p.2 ∙ append-nil (p.0 ++ kept)) ∙ append_assoc p.0 kept text ∙ ap (λ x. p.0 ++ x) (sym g.2) ∙ sym (append_assoc p.0 g.0 kept') ∙ sym (append-nil ((p.0 ++ g.0) ++ kept')))
+        let p = a.flows in (
+          p.0 ++ g.0,
+          Appends-trans reported₀ reported reported' p.0 g.0 p.1 g.1,
+          whole ∙ ap (λ x. x ++ text) (p.2 ∙ append-nil (p.0 ++ kept)) ∙ append_assoc p.0 kept text ∙ ap (λ x. p.0 ++ x) (sym g.2) ∙ sym (append_assoc p.0 g.0 kept') ∙ sym (append-nil ((p.0 ++ g.0) ++ kept')),
+        )
 
     -- out of view
     noted : in_view v n ≡ false → Next
@@ -453,10 +455,12 @@ module _ (l : Layout) (v : DrawnRange) (events : List Event) (reported₀ report
             let text : event_text l v n k es e ≡ band_steps l v start (turned l all d) all =
             cond-true (in_view v n) (added_on l v n k all) [] seen ∙ cond-true (fills v n) (band_steps l v start (turned l all k) all) [] (ap (λ b. cond b false true) full)
             ∙ ap (λ z. band_steps l v start (turned l all z) all) a.kept_is
-            in
-            ([], ap (prefix_picture l v []) split_all ∙ band_text l v [] a.done all a.shut (λ some. first_seen seen) fits start begin
-            ∙ ap (λ x. prefix_picture l v [] a.done ++ band_steps l v start (turned l x d) all) same
-            ∙ ap (λ x. prefix_picture l v [] a.done ++ x) (sym text) ∙ sym (append-nil (prefix_picture l v [] a.done ++ event_text l v n k es e)))
+            in (
+              [],
+              ap (prefix_picture l v []) split_all ∙ band_text l v [] a.done all a.shut (λ some. first_seen seen) fits start begin
+                  ∙ ap (λ x. prefix_picture l v [] a.done ++ band_steps l v start (turned l x d) all) same
+                  ∙ ap (λ x. prefix_picture l v [] a.done ++ x) (sym text) ∙ sym (append-nil (prefix_picture l v [] a.done ++ event_text l v n k es e)),
+            )
 
   -- what is left is drawn at the end
   module _ (more : List Event) (c start : ℕ) (c_is : c ≡ length es) (start_is : start ≡ n - c) where
@@ -470,9 +474,9 @@ module _ (l : Layout) (v : DrawnRange) (events : List Event) (reported₀ report
         let front : take c more ≡ es = ap (take c) same ∙ take_at es after c (sym c_is) in
         let back : k ≡ drawn_at l v [] a.done = a.kept_is in (
           ap (prefix_picture l v after) a.split ∙ band_text l v after a.done es a.shut seen fits start begin
-          ∙ sym (λ i. prefix_picture l v [] a.done ++ band_steps l v start (turned l (same i) (back i)) (front i)),
+              ∙ sym (λ i. prefix_picture l v [] a.done ++ band_steps l v start (turned l (same i) (back i)) (front i)),
           ap (drawn_at l v after) a.split ∙ band_drawn l v after a.done es a.shut seen fits start begin
-          ∙ sym (λ i. drawn_over l v start (turned l (same i) (back i)) (front i)),
+              ∙ sym (λ i. drawn_over l v start (turned l (same i) (back i)) (front i)),
         )
 
     pub draws_all : more ≡ es → Draws []
@@ -496,9 +500,9 @@ module _ (l : Layout) (v : DrawnRange) (events : List Event) (reported₀ report
             in
             let front : take c more ≡ [] = ap (take c) empty ∙ take_of_none c in (
               ap (prefix_picture l v (e ∷ [])) events_are ∙ prefix_cut l v (e ∷ []) a.done [] a.shut ∙ ap (λ t. prefix_picture l v [] a.done ++ t) (no_steps l v (e ∷ []) past own)
-              ∙ sym (λ i. prefix_picture l v [] a.done ++ steps_none l v start (turned l more k) (take c more) front i),
+                  ∙ sym (λ i. prefix_picture l v [] a.done ++ steps_none l v start (turned l more k) (take c more) front i),
               ap (drawn_at l v (e ∷ [])) events_are ∙ drawn_cut l v (e ∷ []) a.done [] a.shut ∙ ap (λ z. drawn_since l v (page_at l v past (e ∷ []) z) past) (same_since l v (e ∷ []) past own) ∙ ap (λ z. drawn_since l v z past) stays
-              ∙ sym a.kept_is ∙ sym (over_none l v start (turned l more k) (take c more) front ∙ ap (λ x. turned l x k) empty),
+                  ∙ sym a.kept_is ∙ sym (over_none l v start (turned l more k) (take c more) front ∙ ap (λ x. turned l x k) empty),
             )
 
         at : (b : Bool) → in_view v n ≡ b → Draws (e ∷ [])
@@ -569,8 +573,11 @@ module _ (budget : ℕ) (left₀ : Option (List ℕ)) (before now : ℕ) (p : Re
       whole_flow after w told f drawn_is =
           let q = here_drawn.flows in
           let all = prefix_picture l v after d.under_way.events in
-          let flows : Pending reported₀ told kept' all [] = (q.0 ++ f.0, Appends-trans reported₀ reported told q.0 f.0 q.1 f.1,
-          w.0 ∙ ap (λ x. x ++ steps) (q.2 ∙ append-nil (q.0 ++ kept)) ∙ append_assoc q.0 kept steps ∙ ap (λ x. q.0 ++ x) (sym f.2) ∙ sym (append_assoc q.0 f.0 kept') ∙ sym (append-nil ((q.0 ++ f.0) ++ kept'))) in
+          let flows : Pending reported₀ told kept' all [] = (
+            q.0 ++ f.0,
+            Appends-trans reported₀ reported told q.0 f.0 q.1 f.1,
+            w.0 ∙ ap (λ x. x ++ steps) (q.2 ∙ append-nil (q.0 ++ kept)) ∙ append_assoc q.0 kept steps ∙ ap (λ x. q.0 ++ x) (sym f.2) ∙ sym (append_assoc q.0 f.0 kept') ∙ sym (append-nil ((q.0 ++ f.0) ++ kept')),
+          ) in
           (subst (λ x. Pending reported₀ told kept' (prefix_picture x v after d.under_way.events) []) same_l flows, drawn_is ∙ sym w.1 ∙ ap (λ x. drawn_at x v after d.under_way.events) same_l)
 
       pub all_whole : more ≡ es → (told : Option (List ℕ)) → Flows reported told kept kept' steps → k' ≡ drawn_over l v start (turned l more k) (take c more) → Pending reported₀ told kept' (prefix_picture p.layout v [] d.under_way.events) [] × (k' ≡ drawn_at p.layout v [] d.under_way.events)

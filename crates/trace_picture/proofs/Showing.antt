@@ -122,7 +122,7 @@ module _ (b c : Band) (same : b.threads ≡ c.threads) where
   unfolding arrows_at
   same_arrows k o m =
       let split : (d : Band) → has_text (arrow_by d k o m.wait m.waker ++ wakes_by d o k.stands m.stand ++ fork_by d o m.life)
-          ≡ ((has_text (arrow_by d k o m.wait m.waker) || has_text (wakes_by d o k.stands m.stand)) || has_text (fork_by d o m.life)) =
+      ≡ ((has_text (arrow_by d k o m.wait m.waker) || has_text (wakes_by d o k.stands m.stand)) || has_text (fork_by d o m.life)) =
       λ d. text_of (arrow_by d k o m.wait m.waker ++ wakes_by d o k.stands m.stand) (fork_by d o m.life)
       ∙ ap (λ x. x || has_text (fork_by d o m.life)) (text_of (arrow_by d k o m.wait m.waker) (wakes_by d o k.stands m.stand))
       in

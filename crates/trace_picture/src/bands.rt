@@ -75,13 +75,7 @@ fn lines_height(plan: &Plan) -> u64
 }
 
 // Adds the name of the thread where it is one of the first that live and have no row, and says whether it is one.
-fn add_idle_name(
-    buf: &mut [u8],
-    at: usize,
-    idle: bool,
-    before: u32,
-    t: u32,
-) -> usize
+fn add_idle_name(buf: &mut [u8], at: usize, idle: bool, before: u32, t: u32) -> usize
     requires { at + 22 ≤ length buf.old }
     ensures text { take result buf.new ≡ take at buf.old ++ (if idle && nat_lt before IDLE_NAMES then with_number (codes " t") t else []) }
     ensures near { result ≤ at + 22 }
@@ -164,13 +158,7 @@ fn add_idle_line(
 }
 
 // The same, where there are any.
-fn add_idle(
-    buf: &mut [u8],
-    at: usize,
-    layout: &Layout,
-    plan: &Plan,
-    board: &TraceState,
-) -> usize
+fn add_idle(buf: &mut [u8], at: usize, layout: &Layout, plan: &Plan, board: &TraceState) -> usize
     requires lawful { IsLawful layout.now }
     requires room { at + 5900 ≤ length buf.old }
     ensures text { take result buf.new ≡ take at buf.old ++ idle_text layout.now plan.now (tracked_of board.now) }
@@ -612,7 +600,15 @@ fn add_drawn(
     let at = add_opening(buf, at, layout, view, &drawing.page, &drawing.board, place);
     let at = add_event_shapes(buf, at, layout, view, drawing, place, e);
     drawing.board.note(place, e);
-    add_closing_after(buf, at, layout, view, &drawing.page.plan, &drawing.board, place)
+    add_closing_after(
+        buf,
+        at,
+        layout,
+        view,
+        &drawing.page.plan,
+        &drawing.board,
+        place,
+    )
 }
 
 /// Adds all that an event adds, and notes what it takes and gives back.

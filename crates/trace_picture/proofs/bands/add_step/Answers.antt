@@ -20,7 +20,6 @@ returns-then-is_in_view-clause-text c =
     let k = tracked_of c.args.drawing.now.board in
     let p = c.args.drawing.now.page in
     let drawn = opening l v p k n ++ event_shapes v.ordered (band_of l v p.plan n) k n e ++ closing_after l v p.plan (tracked_after n e k) n in
-
     c.add_drawn.ensures.text ∙ ap (λ (x : Drawn). old ++ (opening l v p k n ++ event_shapes v.ordered (band_of l v p.plan n) k n e ++ closing_after l v p.plan x.board n)) c.add_drawn.ensures.kept
     ∙ ap (λ x. old ++ x) (sym (cond-true (in_view v n) drawn [] (sym c.is_in_view.ensures ∙ c.if-is_in_view.true)))
 

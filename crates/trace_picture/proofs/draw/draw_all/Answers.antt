@@ -200,8 +200,6 @@ returns-in-Err-end_cut-clause-cause g c =
     let i = c.loop-event.invariant in
     cause_after _ _ _ _ _ (omega (arith, i.sunk, c.draw_rest-in-Err-next_event.ensures.cause.later)) c.in-Err-end_cut.ensures.cause
 
-
-
 pub returns-in-Ok-end_failed-clause-later : goal.returns-in-Ok-end_failed-clause-later
 returns-in-Ok-end_failed-clause-later g c = omega (arith, c.next_event.ensures.later, c.loop-event.invariant.later)
 
