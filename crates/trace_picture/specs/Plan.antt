@@ -92,8 +92,11 @@ step_of l k es t = height_of l k es t + gap_below (kind_of l k es t)
 abbrev pub top_of : Layout → Tracked → List Event → ℕ → ℕ
 top_of l k es t = AXIS + sum_below (step_of l k es) t
 
+abbrev pub row_with : Layout → Tracked → List Event → ℕ → ℕ → BandRow
+row_with l k es t y = record { y = y; height = height_of l k es t; kind = kind_of l k es t }
+
 abbrev pub row_of : Layout → Tracked → List Event → ℕ → BandRow
-row_of l k es t = record { y = top_of l k es t; height = height_of l k es t; kind = kind_of l k es t }
+row_of l k es t = row_with l k es t (top_of l k es t)
 
 unfoldable pub rows_below : (ℕ → BandRow) → ℕ → List BandRow
 rows_below f zero = []

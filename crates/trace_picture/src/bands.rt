@@ -502,7 +502,7 @@ fn add_bars_ended(
 fn add_event_marks(
     buf: &mut [u8],
     at: usize,
-    band: &Band,
+    reach: &Reach,
     board: &TraceState,
     place: u64,
     e: &Event,
@@ -512,20 +512,16 @@ fn add_event_marks(
     requires noted { IsNoted e.now }
     requires same { shown.now ≡ marks e.now }
     requires few { place < 2 ^ 41 }
+    requires reach { reach.now ≡ up_to reach.now.band place }
     requires room { at + 5000 ≤ length buf.old }
-    ensures text { take result buf.new ≡ take at buf.old ++ event_marks ordered band.now (tracked_of board.now) place e.now }
+    ensures text { take result buf.new ≡ take at buf.old ++ event_marks ordered reach.now.band (tracked_of board.now) place e.now }
     ensures near { result ≤ at + 5000 }
 {
-    let reach = Reach {
-        band: *band,
-        to: place + 1,
-        ended: true,
-    };
-    let at = add_label(buf, at, band, place);
-    let at = add_life_row(buf, at, band, place, shown.life);
-    let at = add_mark(buf, at, ordered, band, place, e, shown);
-    let at = add_object_if(buf, at, band, place, e, shown);
-    add_bars_ended(buf, at, &reach, board, shown)
+    let at = add_label(buf, at, &reach.band, place);
+    let at = add_life_row(buf, at, &reach.band, place, shown.life);
+    let at = add_mark(buf, at, ordered, &reach.band, place, e, shown);
+    let at = add_object_if(buf, at, &reach.band, place, e, shown);
+    add_bars_ended(buf, at, reach, board, shown)
 }
 
 // Adds these and the arrows from the event and to it, and notes what was drawn.
@@ -553,6 +549,11 @@ fn add_event_shapes(
     ensures near { result ≤ at + 99300 }
 {
     let band = band_of(layout, view, &drawing.page.plan, place);
+    let reach = Reach {
+        band,
+        to: place + 1,
+        ended: true,
+    };
     let shown = marks_of(e.thread, &e.action);
     let by = Origin {
         thread: e.thread,
@@ -562,14 +563,14 @@ fn add_event_shapes(
     let marked = add_event_marks(
         buf,
         at,
-        &band,
+        &reach,
         &drawing.board,
         place,
         e,
         &shown,
         view.ordered,
     );
-    let end = add_arrows(buf, marked, &band, &drawing.board, &by, &shown);
+    let end = add_arrows(buf, marked, &reach.band, &drawing.board, &by, &shown);
     note_opening(&mut drawing.shown, layout, view, &drawing.board, by);
     note_event(&mut drawing.shown, &shown, marked < end, by);
     end

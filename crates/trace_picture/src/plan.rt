@@ -1,5 +1,5 @@
 //! The rows of a band.
-ghost use Rattle.std.specs.Prelude.{◌≡◌, ◌+◌, ◌<◌, ◌≤◌, ◌^◌, max};
+ghost use Rattle.std.specs.Prelude.{◌≡◌, ◌+◌, ◌<◌, ◌≤◌, ◌^◌, ◌||◌, max, nat_lt, is_some, true, false};
 ghost use Rattle.larch_actions.specs.Layout.{IsLawful};
 ghost use Rattle.larch_actions.specs.State.{count_below};
 ghost use Rattle.trace_board.specs.History.{entry_of};
@@ -7,7 +7,7 @@ ghost use Rattle.trace_board.specs.Tracked.{tracked_of};
 ghost use Rattle.trace_board.specs.Laws.{is_live};
 ghost use Rattle.trace_board.specs.declared.rows.Bar.TheVariants.{Mutex, Semaphore};
 ghost use Rattle.trace_shapes.specs.Places.{row_in};
-ghost use Rattle.trace_picture.specs.Plan.{lanes_to, most_below, depth_of, thin_kind, kind_of, high, gap_below, height_of, step_of, row_of, plan_of, has_row, is_absent, is_idle, idle_count, idle_height, no_rows, no_page, page_of};
+ghost use Rattle.trace_picture.specs.Plan.{lanes_to, most_below, depth_of, thin_kind, forks_it, acts, high, gap_below, row_with, step_of, row_of, plan_of, has_row, is_absent, is_idle, idle_count, idle_height, no_rows, no_page, page_of};
 
 use crate::kept::Kept;
 use larch_actions::{Layout, Life, ThreadId, Version};
@@ -102,21 +102,14 @@ fn thin_kind(waits: bool, other: bool) -> RowKind
     }
 }
 
-// How a thread is shown, the bars in whose row need so many lanes.
-fn kind_of(layout: &Layout, board: &TraceState, kept: &Kept, t: u32, depth: u32) -> RowKind
+// How a thread without an event is shown, the bars in whose row need so many lanes.
+fn kind_without(board: &TraceState, kept: &Kept, t: u32, depth: u32) -> RowKind
     requires few { t < 256 }
-    requires depth { depth ≡ depth_of layout.now (tracked_of board.now) t }
-    ensures { result ≡ kind_of layout.now (tracked_of board.now) kept.now t }
+    ensures { result ≡ thin_kind (is_some ((tracked_of board.now).waits t)) (nat_lt 0 depth || forks_it kept.now t) }
 {
-    if kept.acts(t) {
-        RowKind::Busy
-    } else if t < layout.threads {
-        let waits = board.waits.at(t).is_some();
-        let forked = kept.forks(t);
-        thin_kind(waits, 0 < depth || forked)
-    } else {
-        RowKind::Absent
-    }
+    let waits = board.waits.at(t).is_some();
+    let forked = kept.forks(t);
+    thin_kind(waits, 0 < depth || forked)
 }
 
 // How high the row of a thread is that is shown so.
@@ -147,21 +140,38 @@ fn gap_below(kind: RowKind) -> u16
     }
 }
 
+// The row of a thread without an event, with this upper edge.
+fn row_without(layout: &Layout, board: &TraceState, kept: &Kept, t: u32, y: u16) -> BandRow
+    requires lawful { IsLawful layout.now }
+    requires few { t < 256 }
+    requires idle { acts kept.now t ≡ false }
+    requires there { t < layout.now.threads }
+    ensures row { result ≡ row_with layout.now (tracked_of board.now) kept.now t y }
+    ensures small { result.height ≤ 76 }
+{
+    let depth = depth_of(layout, board, t);
+    let kind = kind_without(board, kept, t, depth);
+    let height = high(kind, lanes_of(layout), depth);
+    BandRow { y, height, kind }
+}
+
 // The row of a thread, with this upper edge.
 fn row_at(layout: &Layout, board: &TraceState, kept: &Kept, t: u32, y: u16) -> BandRow
     requires lawful { IsLawful layout.now }
     requires few { t < 256 }
-    ensures row { result ≡ record {
-      y = y;
-      height = height_of layout.now (tracked_of board.now) kept.now t;
-      kind = kind_of layout.now (tracked_of board.now) kept.now t;
-    } }
+    ensures row { result ≡ row_with layout.now (tracked_of board.now) kept.now t y }
     ensures small { result.height ≤ 76 }
 {
-    let depth = depth_of(layout, board, t);
-    let kind = kind_of(layout, board, kept, t, depth);
-    let height = high(kind, lanes_of(layout), depth);
-    BandRow { y, height, kind }
+    if kept.acts(t) {
+        let kind = RowKind::Busy;
+        let height = high(kind, lanes_of(layout), 0);
+        BandRow { y, height, kind }
+    } else if t < layout.threads {
+        row_without(layout, board, kept, t, y)
+    } else {
+        let kind = RowKind::Absent;
+        BandRow { y, height: 0, kind }
+    }
 }
 
 // The rows of the band of these events.
